@@ -1,0 +1,162 @@
+-- What the program does for its words and its file.
+use Rattle.std.proofs.Common.{◌≡◌, ◌≢◌, ℕ, ◌+◌, ◌<◌, ◌≤◌, Bool, true, false, List, [], ◌∷◌, ◌++◌, length, take, refl, sym, ap, subst, ◌∙◌, arith, inl, inr}
+use Rattle.std.specs.Prelude.{⊤, ◌⊎◌, IfSome, codes}
+use Rattle.std.specs.Global.{Vec}
+use Rattle.std.specs.declared.option.Option.{Option}
+use Rattle.std.specs.declared.option.Option.TheVariants.{None, Some}
+use Rattle.std.proofs.lemmas.List.{length-take, take_all}
+use Rattle.term_core.specs.declared.program.Program.{Program}
+use Rattle.io_ends.specs.Causes.{Rose}
+use Rattle.io_ends.specs.Told.{content_now, IsReadOf}
+use Rattle.io_ends.specs.declared.ends.FileRead.TheVariants.{Found, Missing}
+use Rattle.pipe_text.specs.Standing.{StandsFor}
+use Rattle.current_cli.specs.declared.session.SessionEnd.{SessionEnd}
+use Rattle.current_cli.specs.declared.session.SessionEnd.TheVariants.{Quit, ReadFault, WriteFault, NoMemory}
+use Rattle.current_cli.specs.Checking.{IsSound}
+use Rattle.current_cli.specs.Marks.{Mark, Print, Did, Stopped}
+use Rattle.current_cli.specs.Transcripts.{IsTold, IsRunOf, transcript}
+use Rattle.current_cli.specs.Top.{Task, wrong_words, no_file, no_pipeline, session_of, IsTaskOfContent, IsTaskOfFile, IsTask, status_of, marks_for, IsStatusOf, Follows, IsRun, IsRunOn, HoldsPipeline, end_status}
+use Rattle.current_cli.proofs.Stops.{nothing_done}
+
+-- the status and the marks of one task
+abbrev pub Done : Option (List ℕ) → Task → ℕ → Option (List ℕ) → Option (List ℕ) → Type 0
+Done left task status w w' = IsStatusOf task status × IsTold left (λ bytes. Follows task bytes status w w')
+
+-- ---- a task of which nothing was done
+
+fault_apart : (task : Task) (n : ℕ) → 3 < n → n ≢ status_of task
+fault_apart wrong_words n more same = absurd (omega (arith, more, same))
+fault_apart no_file n more same = absurd (omega (arith, more, same))
+fault_apart no_pipeline n more same = absurd (omega (arith, more, same))
+fault_apart (session_of p) n more same = absurd (omega (arith, more, same))
+
+nothing_told : (left : Option (List ℕ)) (task : Task) (status : ℕ) (w : Option (List ℕ)) → status ≢ status_of task → IsTold left (λ bytes. Follows task bytes status w w)
+nothing_told None task status w fault = tt
+nothing_told (Some bytes) task status w fault = (nothing_done (marks_for task bytes) w, λ same. absurd (fault same))
+
+pub nothing_of : (left : Option (List ℕ)) (task : Task) (status : ℕ) (w : Option (List ℕ)) → (status ≡ 4) ⊎ ((status ≡ 5) ⊎ (status ≡ 7)) → 3 < status → Done left task status w w
+nothing_of left task status w is more = (inr is, nothing_told left task status w (fault_apart task status more))
+
+-- ---- a task of one line
+
+line_told : (left : Option (List ℕ)) (task : Task) (line : List ℕ) (status : ℕ) (w w' : Option (List ℕ)) → ((bytes : List ℕ) → marks_for task bytes ≡ Print line ∷ [])
+    → Stopped (Print line ∷ []) w w' → (status ≡ status_of task → Did (Print line ∷ []) [] w w') → IsTold left (λ bytes. Follows task bytes status w w')
+line_told None task line status w w' is stopped whole = tt
+line_told (Some bytes) task line status w w' is stopped whole = rw (is bytes) (stopped, whole)
+
+or_fault : (task : Task) (status : ℕ) → (status ≡ status_of task) ⊎ (status ≡ 5) → IsStatusOf task status
+or_fault task status (inl same) = inl same
+or_fault task status (inr fault) = inr (inr (inl fault))
+
+pub one_line : (left : Option (List ℕ)) (task : Task) (line : List ℕ) (status : ℕ) (w w' : Option (List ℕ)) → ((bytes : List ℕ) → marks_for task bytes ≡ Print line ∷ [])
+    → (status ≡ status_of task) ⊎ (status ≡ 5) → Stopped (Print line ∷ []) w w' → (status ≡ status_of task → Did (Print line ∷ []) [] w w') → Done left task status w w'
+one_line left task line status w w' is ends stopped whole = (or_fault task status ends, line_told left task line status w w' is stopped whole)
+
+-- ---- a session
+
+quits : (end : SessionEnd) → end_status end ≡ 0 → end ≡ Quit
+quits Quit e = refl
+quits ReadFault e = absurd (omega (arith, e))
+quits WriteFault e = absurd (omega (arith, e))
+quits NoMemory e = absurd (omega (arith, e))
+
+status_of_end : (p : Program) (end : SessionEnd) → IsStatusOf (session_of p) (end_status end)
+status_of_end p Quit = inl refl
+status_of_end p ReadFault = inr (inl refl)
+status_of_end p WriteFault = inr (inr (inl refl))
+status_of_end p NoMemory = inr (inr (inr refl))
+
+session_told : (left : Option (List ℕ)) (p : Program) (end : SessionEnd) (w w' : Option (List ℕ)) → IsTold left (λ bytes. IsRunOf (transcript p bytes) end w w')
+    → IsTold left (λ bytes. Follows (session_of p) bytes (end_status end) w w')
+session_told None p end w w' run = tt
+session_told (Some bytes) p end w w' run = (run.0, λ same. run.1 (quits end same))
+
+session_done : (left : Option (List ℕ)) (p : Program) (end : SessionEnd) (w w' : Option (List ℕ)) → IsTold left (λ bytes. IsRunOf (transcript p bytes) end w w') → Done left (session_of p) (end_status end) w w'
+session_done left p end w w' run = (status_of_end p end, session_told left p end w w' run)
+
+-- ---- a content
+
+pub runs_nothing : (content : List ℕ) (left : Option (List ℕ)) (status : ℕ) (w : Option (List ℕ)) → (status ≡ 4) ⊎ ((status ≡ 5) ⊎ (status ≡ 7)) → 3 < status → IsRunOn content left status w w
+runs_nothing content left status w is more task t = nothing_of left task status w is more
+
+pub refuses : (content : List ℕ) (left : Option (List ℕ)) (status : ℕ) (w w' : Option (List ℕ)) → ((p : Program) → StandsFor content p → IsSound p → ⊥)
+    → (status ≡ 3) ⊎ (status ≡ 5) → Stopped (Print (codes "error: pipeline\n") ∷ []) w w' → (status ≡ 3 → Did (Print (codes "error: pipeline\n") ∷ []) [] w w') → IsRunOn content left status w w'
+refuses content left status w w' none ends stopped whole no_pipeline t = one_line left no_pipeline (codes "error: pipeline\n") status w w' (λ bytes. refl) ends stopped whole
+refuses content left status w w' none ends stopped whole (session_of p) t = absurd (none p t.0 t.1)
+refuses content left status w w' none ends stopped whole no_file t = absurd t
+refuses content left status w w' none ends stopped whole wrong_words t = absurd t
+
+pub runs : (content : List ℕ) (left : Option (List ℕ)) (p : Program) (end : SessionEnd) (w w' : Option (List ℕ)) → StandsFor content p → IsSound p → ((q : Program) → StandsFor content q → q ≡ p)
+    → IsTold left (λ bytes. IsRunOf (transcript p bytes) end w w') → IsRunOn content left (end_status end) w w'
+runs content left p end w w' stands sound only run no_pipeline t = absurd (t p stands sound)
+runs content left p end w w' stands sound only run (session_of q) t = subst (λ (r : Program). Done left (session_of r) (end_status end) w w') (sym (only q t.0)) (session_done left p end w w' run)
+runs content left p end w w' stands sound only run no_file t = absurd t
+runs content left p end w w' stands sound only run wrong_words t = absurd t
+
+-- ---- the content that is held, and the one that was read of it
+
+read_whole : (content v : List ℕ) (limit : ℕ) → v ≡ take (limit + 1) content → length v ≤ limit → v ≡ content
+read_whole content v limit is few = is ∙ take_all (limit + 1) content (let l = ap length is in omega (arith, l, few, length-take (limit + 1) content))
+
+held_whole : (content v : List ℕ) (limit : ℕ) → v ≡ take (limit + 1) content → length content ≤ limit → v ≡ content
+held_whole content v limit is few = is ∙ take_all (limit + 1) content (omega (arith, few))
+
+-- a task of what is held is one of what was read
+read_task : (content v : List ℕ) (task : Task) → v ≡ take (1048576 + 1) content → IsTaskOfContent content task → IsTaskOfContent v task
+read_task content v wrong_words is t = t
+read_task content v no_file is t = t
+read_task content v no_pipeline is t = λ p stands sound. t p (subst (λ (c : List ℕ). StandsFor c p) (read_whole content v 1048576 is stands.few_bytes) stands) sound
+read_task content v (session_of p) is t = (subst (λ (c : List ℕ). StandsFor c p) (sym (held_whole content v 1048576 is t.0.few_bytes)) t.0, t.1)
+
+found_task : (held : Option (List ℕ)) (v : Vec ℕ) (task : Task) → IsReadOf held 1048576 (Found v) → IsTaskOfFile held task → IsTaskOfContent v.items task
+found_task None v task read t = absurd read
+found_task (Some content) v task read t = read_task content v.items task read t
+
+missing_task : (held : Option (List ℕ)) (task : Task) → IsReadOf held 1048576 Missing → IsTaskOfFile held task → task ≡ no_file
+missing_task None task read t = t
+missing_task (Some content) task read t = absurd read
+
+named : (o : Option (List ℕ)) (path : List ℕ) (contents : List ℕ → List (List ℕ)) (task : Task) → o ≡ Some path → IsTask o contents task → IsTaskOfFile (content_now (contents path)) task
+named o path contents task is t = subst (λ (q : Option (List ℕ)). IsTask q contents task) is t
+
+-- ---- the whole run
+
+pub run_without_words : (h : Option (List ℕ → List (List ℕ))) (o left : Option (List ℕ)) (status : ℕ) (w w' : Option (List ℕ)) → o ≡ None
+    → Done left wrong_words status w w' → IfSome h (λ contents. IsRun o contents left status w w')
+run_without_words None o left status w w' is done = tt
+run_without_words (Some contents) o left status w w' is done = λ task t. subst (λ (s : Task). Done left s status w w') (sym (subst (λ (q : Option (List ℕ)). IsTask q contents task) is t)) done
+
+pub run_missing : (h : Option (List ℕ → List (List ℕ))) (o left : Option (List ℕ)) (path : List ℕ) (status : ℕ) (w w' : Option (List ℕ)) → o ≡ Some path
+    → IfSome h (λ contents. IsReadOf (content_now (contents path)) 1048576 Missing)
+    → Done left no_file status w w' → IfSome h (λ contents. IsRun o contents left status w w')
+run_missing None o left path status w w' is read done = tt
+run_missing (Some contents) o left path status w w' is read done =
+    λ task t. subst (λ (s : Task). Done left s status w w') (sym (missing_task (content_now (contents path)) task read (named o path contents task is t))) done
+
+pub run_found : (h : Option (List ℕ → List (List ℕ))) (o left : Option (List ℕ)) (path : List ℕ) (v : Vec ℕ) (status : ℕ) (w w' : Option (List ℕ)) → o ≡ Some path
+    → IfSome h (λ contents. IsReadOf (content_now (contents path)) 1048576 (Found v))
+    → IsRunOn v.items left status w w' → IfSome h (λ contents. IsRun o contents left status w w')
+run_found None o left path v status w w' is read run = tt
+run_found (Some contents) o left path v status w w' is read run = λ task t. run task (found_task (content_now (contents path)) v task read (named o path contents task is t))
+
+pub run_fault : (h : Option (List ℕ → List (List ℕ))) (o left : Option (List ℕ)) (status : ℕ) (w : Option (List ℕ)) → (status ≡ 4) ⊎ ((status ≡ 5) ⊎ (status ≡ 7)) → 3 < status
+    → IfSome h (λ contents. IsRun o contents left status w w)
+run_fault None o left status w is more = tt
+run_fault (Some contents) o left status w is more = λ task t. nothing_of left task status w is more
+
+-- ---- a run that is whole
+
+ends_whole : (status : ℕ) (A B C : Type 0) → (status ≡ 0) ⊎ ((status ≡ 4) ⊎ ((status ≡ 5) ⊎ (status ≡ 7))) → (status ≡ 4 → A ⊎ C) → (status ≡ 5 → B) → (A → ⊥) → (B → ⊥) → (C → ⊥) → (status ≡ 0) ⊎ (status ≡ 7)
+ends_whole status A B C (inl zero) read write a b c = inl zero
+ends_whole status A B C (inr (inl four)) read write a b c = absurd (elim (read four) [ inl x ↦ a x | inr y ↦ c y ])
+ends_whole status A B C (inr (inr (inl five))) read write a b c = absurd (b (write five))
+ends_whole status A B C (inr (inr (inr seven))) read write a b c = inr seven
+
+held_task : (o : Option (List ℕ)) (contents : List ℕ → List (List ℕ)) → HoldsPipeline o contents → (p : Program) × IsTask o contents (session_of p)
+held_task None contents holds = absurd holds
+held_task (Some path) contents (content, p, is, stands, sound) = (p, subst (λ (h : Option (List ℕ)). IsTaskOfFile h (session_of p)) (sym is) (stands, sound))
+
+pub completes : (h : Option (List ℕ → List (List ℕ))) (o left : Option (List ℕ)) (status : ℕ) (w w' : Option (List ℕ)) (A B C : Type 0) → IfSome h (λ contents. IsRun o contents left status w w')
+    → (status ≡ 4 → A ⊎ C) → (status ≡ 5 → B) → IfSome h (λ contents. HoldsPipeline o contents → (A → ⊥) → (B → ⊥) → (C → ⊥) → (status ≡ 0) ⊎ (status ≡ 7))
+completes None o left status w w' A B C run read write = tt
+completes (Some contents) o left status w w' A B C run read write = λ holds a b c. let t = held_task o contents holds in ends_whole status A B C ((run (session_of t.0) t.1).0) read write a b c

@@ -1,0 +1,16 @@
+use Rattle.std.proofs.Common.{◌∙◌, ap, List}
+use Rattle.value_core.specs.declared.value.Value.{Value}
+use Rattle.current_cli.specs.Cores.{Core}
+use Rattle.current_cli.proofs.Restored.{set_back}
+use Rattle.current_cli.proofs.pipeline.Pipeline.set.Goals as goal
+
+pub invariant_of-self-in-Err : goal.invariant_of-self-in-Err
+invariant_of-self-in-Err c =
+    let same = set_back _ c.args.place c.replace-before.new.dest c.replace-before.result _ (rw (← c.self.view_is) at c.requires.known) (c.replace-before.ensures.value ∙ c.index_mut.ensures.value) in
+    rw same c.self.invariant
+
+pub returns-in-Err-clause-same : goal.returns-in-Err-clause-same
+returns-in-Err-clause-same c =
+    let same = set_back _ c.args.place c.replace-before.new.dest c.replace-before.result _ (rw (← c.self.view_is) at c.requires.known) (c.replace-before.ensures.value ∙ c.index_mut.ensures.value) in
+    let core : List Value → Core = λ inputs. record { program = c.self.inside.program; version = c.self.inside.version; inputs = inputs } in
+    ap core same ∙ c.self.view_is

@@ -1,0 +1,12 @@
+pub mod Literals
+pub mod Controls
+pub mod Checking
+pub mod Versions
+pub mod Cores
+pub mod Settings
+pub mod Codes
+pub mod Lines
+pub mod Marks
+pub mod StopCauses
+pub mod Transcripts
+pub mod Top

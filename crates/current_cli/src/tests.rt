@@ -1,0 +1,228 @@
+//! Whole runs, over ends in memory. The expected texts were worked by hand.
+use crate::top::top;
+use io_ends::{FilesInMemory, HeldFile, SinkInMemory, SourceInMemory};
+use std::alloc::{AllocError, Global};
+use std::test::Fail;
+
+const FIRST: &str =
+    "pipeline 1\ninput head text \"a\"\nnode tip (input head)\nnode both (pair (node tip) (return 7))\n";
+
+const OPENING: &str = "version 1\ntip: ok \"a\"\nboth: ok (\"a\", 7)\n";
+
+/// What a run wrote, and its status.
+#[derive(Drop)]
+struct Outcome {
+    status: u8,
+    written: Vec<u8>,
+}
+
+/// Which calls of the ends fail, counted from 1.
+#[derive(Clone, Copy)]
+struct Fails<'a> {
+    source: &'a [u64],
+    sink: &'a [u64],
+    files: &'a [u64],
+}
+
+const NONE: Fails<'static> = Fails {
+    source: &[],
+    sink: &[],
+    files: &[],
+};
+
+fn words_of(alloc: Global, words: &[&str]) -> Result<Vec<String>, AllocError> {
+    let mut list = Vec::new(alloc);
+    for word in words {
+        list.push(String::from_str(alloc, word)?)?;
+    }
+    Ok(list)
+}
+
+fn files_of(alloc: Global, file: &str, fails: &[u64]) -> Result<FilesInMemory, AllocError> {
+    let content = Vec::from_slice(alloc, file.as_bytes())?;
+    let held = HeldFile {
+        path: String::from_str(alloc, "p")?,
+        contents: vec![in alloc; content]?,
+    };
+    let files = vec![in alloc; held]?;
+    Ok(FilesInMemory::new(files, Vec::from_slice(alloc, fails)?))
+}
+
+/// Runs the words over a file `p`, with ends that take and give a few bytes at a time.
+fn run(
+    alloc: Global,
+    words: &[&str],
+    file: &str,
+    lines: &[u8],
+    fails: Fails<'_>,
+) -> Result<Outcome, AllocError> {
+    let words = words_of(alloc, words)?;
+    let mut input = SourceInMemory::new(
+        Vec::from_slice(alloc, lines)?,
+        3,
+        Vec::from_slice(alloc, fails.source)?,
+    );
+    let mut out = SinkInMemory::new(alloc, 1 << 23, 5, Vec::from_slice(alloc, fails.sink)?)?;
+    let mut files = files_of(alloc, file, fails.files)?;
+    let status = top(alloc, words.as_slice(), &mut input, &mut out, &mut files);
+    let written = Vec::from_slice(alloc, out.bytes())?;
+    Ok(Outcome { status, written })
+}
+
+#[test]
+fn a_session_prints_its_versions(rt: HostRuntime) -> Result<(), Fail> {
+    let table = [
+        (
+            FIRST,
+            "set head \"b\"\nset head \"c d\"\n",
+            "version 1\ntip: ok \"a\"\nboth: ok (\"a\", 7)\nversion 2\ntip: ok \"b\"\nboth: ok (\"b\", 7)\nversion 3\ntip: ok \"c d\"\nboth: ok (\"c d\", 7)\n",
+        ),
+        (
+            FIRST,
+            "set head \"a\"\nset tail \"a\"\nset head 5\nbogus\n",
+            "version 1\ntip: ok \"a\"\nboth: ok (\"a\", 7)\nversion 2\nrefused unknown input\nrefused wrong kind\nrefused syntax\n",
+        ),
+        ("pipeline 1", "", "version 1\n"),
+        (
+            FIRST,
+            "\n  # a comment\nset head [\"b\"]\nset head \"\\x00\"\nset head",
+            "version 1\ntip: ok \"a\"\nboth: ok (\"a\", 7)\nrefused wrong kind\nrefused syntax\nrefused syntax\n",
+        ),
+    ];
+    for (file, lines, expected) in table {
+        let outcome = run(rt.alloc(), &["run", "p"], file, lines.as_bytes(), NONE)?;
+        assert_eq!(rt; outcome.status, 0);
+        assert_eq!(rt; str::from_utf8(outcome.written.as_slice())?, expected);
+    }
+    Ok(())
+}
+
+#[test]
+fn a_refusal_prints_its_line(rt: HostRuntime) -> Result<(), Fail> {
+    let table: [(&[&str], &str, u8, &str); 9] = [
+        (&["run", "p"], "", 3, "error: pipeline\n"),
+        (
+            &["run", "p"],
+            "pipeline 1 node n (input gone)",
+            3,
+            "error: pipeline\n",
+        ),
+        (
+            &["run", "p"],
+            "pipeline 1 node n (node n)",
+            3,
+            "error: pipeline\n",
+        ),
+        (
+            &["run", "p"],
+            "pipeline 1 node n (return 1) node n (return 2)",
+            3,
+            "error: pipeline\n",
+        ),
+        (&["run", "q"], FIRST, 2, "error: no file\n"),
+        (&["run", ""], FIRST, 2, "error: usage\n"),
+        (&["run"], FIRST, 2, "error: usage\n"),
+        (&["walk", "p"], FIRST, 2, "error: usage\n"),
+        (&["run", "p", "p"], FIRST, 2, "error: usage\n"),
+    ];
+    for (words, file, status, expected) in table {
+        let outcome = run(rt.alloc(), words, file, b"", NONE)?;
+        assert_eq!(rt; outcome.status, status, "{file}");
+        assert_eq!(rt;
+            str::from_utf8(outcome.written.as_slice())?,
+            expected,
+            "{file}"
+        );
+    }
+    Ok(())
+}
+
+#[test]
+fn a_kind_has_64_parts_at_most(rt: HostRuntime) -> Result<(), Fail> {
+    let most =
+        "pipeline 1 node a (return 1) node b (pair (node a) (node a)) node c (pair (node b) (node b)) node d (pair (node c) (node c)) node e (pair (node d) (node d)) node f (pair (node e) (node e))";
+    let outcome = run(rt.alloc(), &["run", "p"], most, b"", NONE)?;
+    assert_eq!(rt; outcome.status, 0);
+    let more = format!(in rt.alloc(); "{most} node g (pair (node f) (return 1))")?;
+    let outcome = run(rt.alloc(), &["run", "p"], more.as_str(), b"", NONE)?;
+    assert_eq!(rt; outcome.status, 3);
+    Ok(())
+}
+
+#[test]
+fn a_value_that_weighs_too_much_fails_where_it_arose(rt: HostRuntime) -> Result<(), Fail> {
+    let text = vec![in rt.alloc(); b'x'; 65_536]?;
+    let text = String::from_utf8(text)?;
+    let file = format!(in rt.alloc();
+        "pipeline 1 input t text \"{text}\" node a (pair (input t) (input t)) node b (pair (node a) (node a)) node c (pair (node b) (node b)) node d (pair (node c) (node c)) node e (pair (node d) (return 1))"
+    )?;
+    let outcome = run(rt.alloc(), &["run", "p"], file.as_str(), b"", NONE)?;
+    assert_eq!(rt; outcome.status, 0);
+    let last = b"\nd: failed \"value too large\" at d\ne: failed \"value too large\" at d\n";
+    assert!(rt; outcome.written.as_slice().ends_with(last));
+    Ok(())
+}
+
+#[test]
+fn a_line_that_is_too_long_is_refused_and_the_next_is_read(rt: HostRuntime) -> Result<(), Fail> {
+    let mut lines = vec![in rt.alloc(); b'x'; 131_073]?;
+    lines.extend_from_slice(b"\nset head \"b\"\n")?;
+    let outcome = run(rt.alloc(), &["run", "p"], FIRST, lines.as_slice(), NONE)?;
+    let expected =
+        "version 1\ntip: ok \"a\"\nboth: ok (\"a\", 7)\nrefused line too long\nversion 2\ntip: ok \"b\"\nboth: ok (\"b\", 7)\n";
+    assert_eq!(rt; outcome.status, 0);
+    assert_eq!(rt; str::from_utf8(outcome.written.as_slice())?, expected);
+    Ok(())
+}
+
+#[test]
+fn a_fault_of_an_end_has_its_status(rt: HostRuntime) -> Result<(), Fail> {
+    let source = Fails {
+        source: &[2],
+        ..NONE
+    };
+    let outcome = run(
+        rt.alloc(),
+        &["run", "p"],
+        FIRST,
+        b"set head \"b\"\n",
+        source,
+    )?;
+    assert_eq!(rt; outcome.status, 4);
+    assert_eq!(rt; str::from_utf8(outcome.written.as_slice())?, OPENING);
+    let files = Fails {
+        files: &[1],
+        ..NONE
+    };
+    let outcome = run(rt.alloc(), &["run", "p"], FIRST, b"", files)?;
+    assert_eq!(rt; outcome.status, 4);
+    assert!(rt; outcome.written.is_empty());
+    Ok(())
+}
+
+#[test]
+fn a_sink_that_fails_leaves_a_front_written(rt: HostRuntime) -> Result<(), Fail> {
+    let whole = run(rt.alloc(), &["run", "p"], FIRST, b"set head \"b\"\n", NONE)?;
+    assert_eq!(rt; whole.status, 0);
+    for call in 1..40u64 {
+        let fails = [call];
+        let sink = Fails {
+            sink: &fails,
+            ..NONE
+        };
+        let outcome = run(rt.alloc(), &["run", "p"], FIRST, b"set head \"b\"\n", sink)?;
+        let is_whole = outcome.written.len() == whole.written.len();
+        assert!(rt;
+            whole
+                .written
+                .as_slice()
+                .starts_with(outcome.written.as_slice())
+        );
+        assert_eq!(rt;
+            outcome.status,
+            if is_whole { 0 } else { 5 },
+            "at call {call}"
+        );
+    }
+    Ok(())
+}

@@ -1,0 +1,12 @@
+pub mod Opening
+pub mod Exactly
+pub mod TermReads
+pub mod Finding
+pub mod TermFinds
+pub mod Names
+pub mod Joined
+pub mod FileReads
+pub mod FileFinds
+pub mod Looping
+pub mod WholeFile
+pub mod Standing

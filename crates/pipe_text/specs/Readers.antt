@@ -1,0 +1,113 @@
+-- Readers of tokens from left to right, with one token in hand.
+use Rattle.std.specs.Prelude.{◌≡◌, ℕ, ◌==◌, List, [], ◌∷◌, Result, Ok, Err, if◌then◌else◌, Option, Some, None}
+use Rattle.std.specs.Str.{bytes_eq}
+use Rattle.value_core.specs.declared.token.Token.{Token}
+use Rattle.value_core.specs.declared.token.Token.TheVariants.{Name, Number, Mark}
+use Rattle.value_core.specs.declared.lexing.Placed.{Placed}
+use Rattle.value_core.specs.declared.lexing.Stop.{Stop}
+use Rattle.value_core.specs.declared.lexing.Stop.TheVariants as stop
+use Rattle.pipe_text.specs.declared.fault.Fault.{Fault}
+use Rattle.pipe_text.specs.declared.fault.Fault.TheVariants.{Lex, Syntax}
+use Rattle.pipe_text.specs.declared.fault.Unread.{Unread}
+use Rattle.pipe_text.specs.declared.fault.Unread.TheVariants.{NoMemory, At}
+
+infixl 10 ◌>>=◌
+-- what comes of a value, or the fault as it is
+abbrev pub ◌>>=◌ : {A B : Type 0} → Result A Fault → (A → Result B Fault) → Result B Fault
+(Ok x) >>= f = f x
+(Err e) >>= f = Err e
+
+-- what failed is what reading gives, unless memory ran out
+abbrev pub Fails : {Y : Type 0} → Unread → Result Y Fault → Type 0
+Fails NoMemory read = Unit {0}
+Fails (At f) read = read ≡ Err f
+
+-- what a function returned, seen by view, is what reading gives, unless memory ran out
+abbrev pub Gives : {X Y : Type 0} → (X → Y) → Result X Unread → Result Y Fault → Type 0
+Gives view (Ok x) read = read ≡ Ok (view x)
+Gives view (Err e) read = Fails e read
+
+-- A reader takes a value from the front of the tokens. Where they stop there is one fault.
+abbrev pub Reader : Type 0 → Type 0
+Reader A = Stop → List Placed → Result (A × List Placed) Fault
+
+-- the fault where a token is wanted and the tokens stop
+abbrev pub fault_of : Stop → Fault
+fault_of (stop.Lex place) = Lex place
+fault_of (stop.End place) = Syntax place
+
+-- the token in hand
+abbrev pub token_at : Reader Placed
+token_at s [] = Err (fault_of s)
+token_at s (t ∷ ts) = Ok (t, ts)
+
+-- nothing is taken
+abbrev pub give : {A : Type 0} → A → Reader A
+give a s ts = Ok (a, ts)
+
+-- nothing can follow
+abbrev pub refuse : {A : Type 0} → Reader A
+refuse s ts = Err (fault_of s)
+
+-- one reader after the other
+abbrev pub seq : {A B : Type 0} → Reader A → (A → Reader B) → Reader B
+seq r f s ts = r s ts >>= λ x. f x.0 s x.1
+
+-- how it goes on behind a token, or the fault at that token's place
+abbrev pub Choice : Type 0 → Type 0
+Choice A = Result (Reader A) (ℕ → Fault)
+
+-- as was chosen
+abbrev pub go : {A : Type 0} → Choice A → ℕ → Reader A
+go (Err f) place s ts = Err (f place)
+go (Ok r) place s ts = r s ts
+
+-- by the token in hand, which is taken
+abbrev pub branch : {A : Type 0} → (Token → Choice A) → Reader A
+branch table s ts = token_at s ts >>= λ t. go (table t.0.token) t.0.place s t.1
+
+-- the value where the file ends, or a reader where a token is left
+abbrev pub unless_ended : {A : Type 0} → A → Reader A → Reader A
+unless_ended a r (stop.Lex place) [] = Err (Lex place)
+unless_ended a r (stop.End place) [] = Ok (a, [])
+unless_ended a r s (t ∷ ts) = r s (t ∷ ts)
+
+-- this mark goes on with nothing
+abbrev pub mark_choice : ℕ → Token → Choice (Unit {0})
+mark_choice c (Mark m) = if m == c then Ok (give tt) else Err Syntax
+mark_choice c k = Err Syntax
+
+-- this mark
+abbrev pub mark_at : ℕ → Reader (Unit {0})
+mark_at c = branch (mark_choice c)
+
+-- this number goes on with nothing
+abbrev pub number_choice : ℕ → Token → Choice (Unit {0})
+number_choice n (Number m) = if m == n then Ok (give tt) else Err Syntax
+number_choice n k = Err Syntax
+
+-- this number
+abbrev pub number_at : ℕ → Reader (Unit {0})
+number_at n = branch (number_choice n)
+
+-- how it goes on behind a word that was looked up
+abbrev pub chosen : {W A : Type 0} → (W → Choice A) → Option W → Choice A
+chosen f None = Err Syntax
+chosen f (Some w) = f w
+
+-- by the word with the letters of a name
+abbrev pub word_choice : {W A : Type 0} → (List ℕ → Option W) → (W → Choice A) → Token → Choice A
+word_choice find f (Name n) = chosen f (find n)
+word_choice find f k = Err Syntax
+
+-- a word
+abbrev pub word_at : {W : Type 0} → (List ℕ → Option W) → Reader W
+word_at find = branch (word_choice find (λ w. Ok (give w)))
+
+-- these letters and no others
+abbrev pub only : List ℕ → List ℕ → Option (Unit {0})
+only letters n = if bytes_eq n letters then Some tt else None
+
+-- the keyword with these letters
+abbrev pub keyword_at : List ℕ → Reader (Unit {0})
+keyword_at letters = word_at (only letters)

@@ -1,0 +1,7 @@
+pub mod Escapes
+pub mod Scans
+pub mod Sames
+pub mod Nuls
+pub mod Texts
+pub mod Bodies
+pub mod Lexes

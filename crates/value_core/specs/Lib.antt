@@ -1,0 +1,11 @@
+pub mod formers
+pub mod Texts
+pub mod Reading
+pub mod Values
+pub mod Printed
+pub mod Codes
+pub mod Strings
+pub mod Pieces
+pub mod Tokens
+pub mod Lexing
+pub mod Same

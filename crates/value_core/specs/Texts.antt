@@ -1,0 +1,11 @@
+-- What a text's bytes keep.
+use Rattle.std.specs.Prelude.{◌≡◌, ℕ, Bool, true, not, ◌&&◌, ◌==◌, List, [], ◌∷◌}
+
+-- no byte is zero
+abbrev pub no_nul : List ℕ → Bool
+no_nul [] = true
+no_nul (b ∷ bs) = not (b == 0) && no_nul bs
+
+-- no byte is zero, as a fact
+abbrev pub HasNoNul : List ℕ → Type 0
+HasNoNul bs = no_nul bs ≡ true

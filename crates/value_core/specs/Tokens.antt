@@ -1,0 +1,117 @@
+-- Tokens, and what stands between them.
+use Rattle.std.specs.Prelude.{◌≡◌, ◌<◌, ◌≤◌, ℕ, zero, suc, ◌+◌, ◌^◌, ◌==◌, ◌&&◌, ◌||◌, not, nat_lt, if◌then◌else◌, Bool, List, [], ◌∷◌, length, drop, take, Option, Some, None, Result, Ok, Err}
+use Rattle.std.specs.List.{prefix_len}
+use Rattle.std.specs.Str.{is_utf8, all_ascii_digits}
+use Rattle.std.specs.Str.Parse.{digits_value}
+use Rattle.value_core.specs.declared.token.Token.{Token}
+use Rattle.value_core.specs.declared.token.Token.TheVariants.{Name, Number, Words, Mark, LongName, LongText}
+use Rattle.value_core.specs.declared.token.Next.{Next}
+use Rattle.value_core.specs.declared.token.Next.TheVariants.{Found, End}
+use Rattle.value_core.specs.declared.token.TokenFault.{TokenFault}
+use Rattle.value_core.specs.declared.token.TokenFault.TheVariants.{Lex, NoMemory}
+use Rattle.value_core.specs.declared.strings.Mode.TheVariants.{Plain}
+use Rattle.value_core.specs.Strings.{body_at}
+
+-- space, tab, newline, carriage return
+abbrev pub is_blank : ℕ → Bool
+is_blank b = b == 32 || (b == 9 || (b == 10 || b == 13))
+
+-- any byte but a newline
+abbrev pub in_line : ℕ → Bool
+in_line b = not (b == 10)
+
+-- `(`, `)`, `[`, `]` and `,`
+abbrev pub is_mark : ℕ → Bool
+is_mark b = b == 40 || (b == 41 || (b == 91 || (b == 93 || b == 44)))
+
+-- `a` to `z`
+abbrev pub is_letter : ℕ → Bool
+is_letter b = nat_lt 96 b && nat_lt b 123
+
+-- a letter, a digit, `_` or `-`
+abbrev pub is_word_byte : ℕ → Bool
+is_word_byte b = is_letter b || ((nat_lt 47 b && nat_lt b 58) || (b == 95 || b == 45))
+
+-- the bytes up to a newline or the end
+abbrev pub line : List ℕ → List ℕ
+line bs = take (prefix_len in_line bs) bs
+
+-- how many bytes of blank space and comments stand at the front, where the first n are of a comment; a comment that isn't UTF-8 is none
+abbrev pub gap : ℕ → List ℕ → ℕ
+gap n [] = 0
+gap zero (b ∷ bs) =
+    if is_blank b then 1 + gap 0 bs
+    else (if b == 35 && is_utf8 (line bs) then 1 + gap (prefix_len in_line bs) bs
+    else 0)
+gap (suc n) (b ∷ bs) = 1 + gap n bs
+
+-- `0`, or digits that don't begin with `0`, below 2 ^ 64
+abbrev pub number_of : List ℕ → Option ℕ
+number_of [] = None
+number_of (b ∷ bs) =
+    if all_ascii_digits (b ∷ bs) && ((not (b == 48) || nat_lt (length bs) 1) && nat_lt (digits_value 10 (b ∷ bs)) (2 ^ 64)) then Some (digits_value 10 (b ∷ bs))
+    else None
+
+-- the token of a number
+abbrev pub number_token : Option ℕ → Option Token
+number_token None = None
+number_token (Some n) = Some (Number n)
+
+-- a name or a number
+abbrev pub word_token : List ℕ → Option Token
+word_token [] = None
+word_token (b ∷ bs) =
+    if is_letter b then Some (if nat_lt 64 (length (b ∷ bs)) then LongName else Name (b ∷ bs))
+    else number_token (number_of (b ∷ bs))
+
+-- the token of a string that stands for this text, where it is UTF-8
+abbrev pub string_token : List ℕ → Option Token
+string_token text =
+    if is_utf8 text then Some (if nat_lt 65536 (length text) then LongText else Words text)
+    else None
+
+-- a token with the number of bytes that it takes
+abbrev pub sized : Option Token → ℕ → Option (Token × ℕ)
+sized None n = None
+sized (Some t) n = Some (t, n)
+
+-- the token of a string behind its opening quote, where it has an end and no wrong escape or character
+abbrev pub string_at : Option (List ℕ × ℕ) → Option (Token × ℕ)
+string_at None = None
+string_at (Some x) = sized (string_token x.0) (x.1 + 1)
+
+-- the token at the front, and how many bytes it takes
+abbrev pub token_at : List ℕ → Option (Token × ℕ)
+token_at [] = None
+token_at (b ∷ bs) =
+    if is_mark b then Some (Mark b, 1)
+    else (if is_word_byte b then sized (word_token (take (prefix_len is_word_byte (b ∷ bs)) (b ∷ bs))) (prefix_len is_word_byte (b ∷ bs))
+    else (if b == 34 then string_at (body_at Plain bs)
+    else None))
+
+-- what was found at a place, with the bytes from there on
+abbrev pub found_at : ℕ → List ℕ → Option (Token × ℕ) → Result Next ℕ
+found_at place [] found = Ok End
+found_at place rest None = Err place
+found_at place rest (Some x) = Ok (Found x.0 place (place + x.1))
+
+-- the next token from a place on, or the place where none begins
+abbrev pub next_at : List ℕ → ℕ → Result Next ℕ
+next_at bytes from =
+    let place = from + gap 0 (drop from bytes) in
+    found_at place (drop place bytes) (token_at (drop place bytes))
+
+-- a fault is the place where no token begins, unless memory ran out
+abbrev pub FailsNext : TokenFault → Result Next ℕ → Type 0
+FailsNext NoMemory next = Unit {0}
+FailsNext (Lex place) next = next ≡ Err place
+
+-- what was returned is the next token, unless memory ran out
+abbrev pub GivesNext : Result Next TokenFault → Result Next ℕ → Type 0
+GivesNext (Ok found) next = next ≡ Ok found
+GivesNext (Err e) next = FailsNext e next
+
+-- a token found stands from a place on, takes a byte at least and ends within n
+abbrev pub EndsWithin : ℕ → ℕ → Next → Type 0
+EndsWithin from n (Found token place end) = (from ≤ place) × (place < end) × (end ≤ n)
+EndsWithin from n End = Unit {0}

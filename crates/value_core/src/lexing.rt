@@ -1,0 +1,60 @@
+//! All tokens of some bytes.
+ghost use Rattle.std.specs.Prelude.{◌≡◌, IfOk};
+ghost use Rattle.value_core.specs.Lexing.{lexed};
+
+use crate::NoMemory;
+use crate::list_of::ListOf;
+use crate::token::{Next, Token, TokenFault, next_token};
+use std::alloc::{AllocError, Global};
+
+/// A token, and the place of its first byte, counted from 0.
+#[derive(Debug, Drop)]
+pub struct Placed {
+    pub token: Token,
+    pub place: usize,
+}
+
+/// Where the tokens stop.
+#[derive(Clone, Copy, Debug, PartialEq, Eq)]
+pub enum Stop {
+    /// At a byte where no token begins.
+    Lex(usize),
+    /// At the end of the bytes, whose number this is.
+    End(usize),
+}
+
+/// The tokens up to where they stop.
+#[derive(Debug, Drop)]
+pub struct Tokens {
+    pub tokens: ListOf<Placed>,
+    pub stop: Stop,
+}
+
+/// The tokens of the bytes, up to the first place where none begins.
+pub fn tokens_of(alloc: Global, bytes: &[u8]) -> Result<Tokens, NoMemory>
+    ensures { IfOk result (λ t. t ≡ lexed bytes.now) }
+{
+    let mut tokens = ListOf::new(alloc);
+    let mut from = 0;
+    'tokens: loop {
+        match next_token(alloc, bytes, from) {
+            Err(fault) => match fault {
+                TokenFault::NoMemory => return Err(AllocError),
+                TokenFault::Lex(place) => {
+                    let stop = Stop::Lex(place);
+                    return Ok(Tokens { tokens, stop });
+                }
+            },
+            Ok(next) => match next {
+                Next::End => {
+                    let stop = Stop::End(bytes.len());
+                    return Ok(Tokens { tokens, stop });
+                }
+                Next::Found { token, place, end } => {
+                    tokens.push(Placed { token, place })?;
+                    from = end;
+                }
+            },
+        }
+    }
+}

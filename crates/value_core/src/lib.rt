@@ -1,0 +1,46 @@
+//! Values, states and tokens: what the crates above speak of.
+//!
+//! `value`, `text`, `list_of` and `state` have the types, `comparing`, `copying`, `kinds` and
+//! `weighing` what is asked of a value, `printing` the printed forms, `token`, `strings`, `blanks`
+//! and `lexing` the tokens of bytes, `steps` a counter for proofs about work.
+#![tactic(auto)]
+
+use std::alloc::AllocError;
+
+mod blanks;
+mod bytes;
+mod comparing;
+mod copying;
+mod function;
+mod kinds;
+mod lexing;
+mod list_of;
+mod numerals;
+mod order;
+mod printing;
+mod state;
+mod steps;
+mod strings;
+#[cfg(test)]
+mod tests;
+mod text;
+mod token;
+mod value;
+mod weighing;
+
+pub use comparing::same_law;
+pub use function::{Applied, Fun};
+pub use kinds::is_kind;
+pub use lexing::{Placed, Stop, Tokens, tokens_of};
+pub use list_of::ListOf;
+pub use printing::{text_of, write_text, write_value};
+pub use state::{Published, Stage, State, Triple};
+pub use steps::Steps;
+pub use strings::{Mode, Step, string_law};
+pub use text::{TEXT_LIMIT, Text, TextFault};
+pub use token::{NAME_LIMIT, Next, Token, TokenFault, next_token};
+pub use value::{Kind, LIST_LIMIT, Outcome, Value};
+pub use weighing::{WEIGHT_LIMIT, outweighs, weight};
+
+/// Memory is wanting: the error of each call that takes memory and has no other.
+pub type NoMemory = AllocError;
