@@ -1,5 +1,4 @@
 pub mod Parts
-pub mod Items
 pub mod Sounds
 pub mod Stops
 pub mod SoFar

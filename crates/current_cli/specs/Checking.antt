@@ -1,6 +1,6 @@
 -- Which programs are sound: each name that a term uses is declared, a node's name before it is used, and no kind has more than 64 parts.
 use Rattle.std.specs.Prelude.{ℕ, ◌+◌, nat_lt, if◌then◌else◌, Bool, true, false, ◌≡◌, List, [], ◌∷◌, ◌++◌, length, map, Option, Some, None, slice_get}
-use Rattle.term_core.specs.Names.{place_named}
+use Rattle.op_keys.specs.Names.{place_named}
 use Rattle.term_core.specs.declared.program.Term.{Term, Term-F, fold-Term}
 use Rattle.term_core.specs.declared.program.Program.{Program}
 use Rattle.term_core.specs.declared.program.NodeDecl.{NodeDecl}
@@ -27,12 +27,13 @@ input_parts inputs n = if nat_lt (place_named 0 inputs n) (length inputs) then S
 abbrev pub node_parts : List (List ℕ) → List ℕ → List ℕ → Option ℕ
 node_parts nodes earlier n = slice_get earlier (place_named 0 nodes n)
 
--- one layer of a term; a literal is a text or a number
+-- one layer of a term; a literal is a text or a number, and a file spells no other terms yet
 abbrev pub parts_step : Program → List ℕ → Term-F (Option ℕ) → Option ℕ
 parts_step p earlier (Term-F.Return v) = Some 1
 parts_step p earlier (Term-F.Input n) = input_parts (map (λ d. d.name) p.inputs) n
 parts_step p earlier (Term-F.Node n) = node_parts (map (λ d. d.name) p.nodes) earlier n
 parts_step p earlier (Term-F.Pair a b) = pair_parts a b
+parts_step p earlier _ = None
 
 -- how many parts a term's kind has, given those of the earlier nodes, where the term is sound
 abbrev pub term_parts : Program → List ℕ → Term → Option ℕ

@@ -7,7 +7,7 @@ use Rattle.value_core.specs.declared.token.Token.TheVariants.{Name}
 use Rattle.value_core.specs.declared.lexing.Stop.{Stop}
 use Rattle.value_core.specs.declared.lexing.Stop.TheVariants as stop
 use Rattle.value_core.specs.Lexing.{lexed}
-use Rattle.current_cli.specs.Literals.{kinds, literal_of}
+use Rattle.value_core.specs.Literals.{kinds, literal_of}
 use Rattle.current_cli.specs.declared.controls.Control.{Control}
 use Rattle.current_cli.specs.declared.controls.Control.TheVariants.{Nothing, Set, Unknown}
 

@@ -1,13 +1,14 @@
 -- A pipeline between two lines of its input, and what a line makes of it.
-use Rattle.std.specs.Prelude.{ℕ, ◌+◌, if◌then◌else◌, List, [], ◌∷◌, map, Option, Some, None, slice_get, slice_set, codes}
+use Rattle.std.specs.Prelude.{ℕ, ◌+◌, ◌^◌, ◌<◌, length, if◌then◌else◌, List, [], ◌∷◌, map, Option, Some, None, slice_get, slice_set, codes}
 use Rattle.value_core.specs.declared.value.Value.{Value, Value-F, out-Value}
 use Rattle.value_core.specs.declared.value.Outcome.{Outcome}
 use Rattle.value_core.specs.declared.value.Kind.{Kind}
 use Rattle.value_core.specs.declared.value.Kind.TheVariants as kind
 use Rattle.value_core.specs.declared.state.State.{State}
 use Rattle.value_core.specs.Values.{fits_kind}
-use Rattle.term_core.specs.Names.{place_named}
-use Rattle.term_core.specs.Evaluation.{fresh}
+use Rattle.op_keys.specs.Names.{place_named}
+use Rattle.term_core.specs.Fresh.{fresh}
+use Rattle.term_core.specs.World.{World}
 use Rattle.term_core.specs.declared.program.Program.{Program}
 use Rattle.term_core.specs.declared.program.InputDecl.{InputDecl}
 use Rattle.io_ends.specs.Lines.{TextLine, Bytes, Long}
@@ -25,9 +26,22 @@ pub record Core : Type 0 where
 abbrev pub opening : Program → Core
 opening p = record { program = p; version = 1; inputs = map (λ d. d.value) p.inputs }
 
--- the state of every node, evaluated afresh over the values of the inputs
+-- the nodes and the operations can be numbered
+pub record IsNumbered (p : Program) : Type 0 where
+  pub nodes : length p.nodes < 2 ^ 32
+  pub ops : length p.ops < 2 ^ 32
+
+-- no job has run, and no result is kept
+abbrev pub nothing_known : World
+nothing_known = record { entries = []; unstarted = [] }
+
+-- the state of every node, evaluated afresh over these values of the inputs
+abbrev pub states_over : Program → List Value → List State
+states_over p inputs = (fresh p inputs nothing_known).states
+
+-- the same over the values that a pipeline has
 abbrev pub states : Core → List State
-states c = fresh c.program c.inputs
+states c = states_over c.program c.inputs
 
 -- the next version, where the input at a place has this value
 abbrev pub with_input : Core → ℕ → Value → Core

@@ -1,4 +1,3 @@
-pub mod Literals
 pub mod Controls
 pub mod Checking
 pub mod Versions

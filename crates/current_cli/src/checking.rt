@@ -51,6 +51,7 @@ fn parts_of(program: &Program, earlier: &[u64], term: &Term) -> Option<u64>
             let second = parts_of(program, earlier, b.get());
             parts_of_pair(first, second)
         }
+        _ => None,
     }
 }
 

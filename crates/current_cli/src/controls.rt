@@ -1,11 +1,10 @@
 //! What a line of the input asks for.
 ghost use Rattle.std.specs.Prelude.{◌≡◌, IfOk};
-ghost use Rattle.current_cli.specs.Literals.{kinds};
+ghost use Rattle.value_core.specs.Literals.{kinds};
 ghost use Rattle.current_cli.specs.Controls.{control_of, control};
 
-use crate::literals::literal_in;
 use std::alloc::{AllocError, Global};
-use value_core::{Placed, Stop, Text, Token, Value, tokens_of};
+use value_core::{Placed, Stop, Text, Token, Value, literal_in, tokens_of};
 
 /// What a line asks for.
 #[derive(Drop)]

@@ -3,9 +3,9 @@
 
 mod checking;
 mod controls;
+mod evaluating;
 mod laws;
 mod lines;
-mod literals;
 mod pipeline;
 mod session;
 mod top;

@@ -1,22 +1,22 @@
 //! A pipeline between two lines of its input.
-ghost use Rattle.std.specs.Prelude.{◌≡◌, ◌<◌, ◌≤◌, ◌^◌, ◌-◌, ◌+◌, [], map, length, slice_get, MatchOption, Some, None, true, IfOk, OnOk, OnErr};
+ghost use Rattle.std.specs.Prelude.{◌≡◌, ◌<◌, ◌≤◌, ◌^◌, ◌-◌, ◌+◌, [], map, length, slice_get, nat_lt, MatchOption, Some, None, true, IfOk, OnOk, OnErr};
 ghost use Rattle.std.specs.String.{string_bytes};
 ghost use Rattle.value_core.specs.Values.{fits_kind};
-ghost use Rattle.term_core.specs.Names.{place_named};
-ghost use Rattle.term_core.specs.Evaluation.{fresh};
-ghost use Rattle.current_cli.specs.Cores.{Core, opening, states, with_input, input_kind};
+ghost use Rattle.op_keys.specs.Names.{place_named};
+ghost use Rattle.current_cli.specs.Cores.{Core, IsNumbered, opening, states, states_over, with_input, input_kind};
 ghost use Rattle.term_core.specs.declared.program.InputDecl.{InputDecl};
 ghost use Rattle.current_cli.specs.Settings.{IsSetting};
 ghost use Rattle.current_cli.specs.Versions.{changes};
 ghost use Rattle.current_cli.specs.Lines.{version_text};
 ghost use Rattle.current_cli.specs.Transcripts.{published};
 
+use crate::evaluating::states_of;
 use crate::lines::version_lines;
 use sqlite_items::Boxed;
 use std::alloc::{AllocError, Global};
 use std::marker::Model;
 use std::mem;
-use term_core::{InputDecl, Program, fresh_states, place_of};
+use term_core::{InputDecl, Program, place_of};
 use value_core::{Kind, ListOf, State, Text, Value, is_kind};
 
 /// A program with its version, the values of its inputs, and the states of its nodes over them.
@@ -29,9 +29,8 @@ pub(crate) struct Pipeline {
 }
 
 impl Model for Pipeline {
-    ghost use Rattle.std.specs.Prelude.{◌≡◌, ◌<◌, ◌^◌, length};
-    ghost use Rattle.term_core.specs.Evaluation.{fresh};
-    ghost use Rattle.current_cli.specs.Cores.{Core};
+    ghost use Rattle.std.specs.Prelude.{◌≡◌, length};
+    ghost use Rattle.current_cli.specs.Cores.{Core, IsNumbered, states_over};
     ghost use Rattle.current_cli.specs.Codes.{core_code};
 
     ghost Value = { Core };
@@ -40,7 +39,7 @@ impl Model for Pipeline {
 
     ghost view = { λ p. record { program = p.program; version = p.version; inputs = p.inputs.items } };
 
-    ghost invariant = { λ p. (length p.program.nodes < 2 ^ 32) × (length p.inputs.items ≡ length p.program.inputs) × (p.states ≡ fresh p.program p.inputs.items) };
+    ghost invariant = { λ p. IsNumbered p.program × (length p.inputs.items ≡ length p.program.inputs) × (p.states ≡ states_over p.program p.inputs.items) };
 }
 
 /// What setting an input comes to.
@@ -84,11 +83,11 @@ fn evaluate(
     inputs: &[Value],
     before: &[State],
 ) -> Result<(ListOf<State>, String), AllocError>
-    requires { length program.now.nodes < 2 ^ 32 }
-    ensures states { IfOk result (λ x. x.0 ≡ fresh program.now inputs.now) }
-    ensures text { IfOk result (λ x. string_bytes x.1 ≡ version_text program.now.nodes version (changes before.now (fresh program.now inputs.now))) }
+    requires { IsNumbered program.now }
+    ensures states { IfOk result (λ x. x.0 ≡ states_over program.now inputs.now) }
+    ensures text { IfOk result (λ x. string_bytes x.1 ≡ version_text program.now.nodes version (changes before.now (states_over program.now inputs.now))) }
 {
-    let states = fresh_states(alloc, program, inputs)?;
+    let states = states_of(alloc, program, inputs)?;
     let text = version_lines(
         alloc,
         program.nodes.as_slice(),
@@ -102,11 +101,11 @@ fn evaluate(
 impl Pipeline {
     /// Version 1 of a program.
     pub(crate) fn open(alloc: Global, program: Program) -> Result<Pipeline, AllocError>
-        requires { length program.nodes < 2 ^ 32 }
+        requires { IsNumbered program }
         ensures { IfOk result (λ p. p ≡ opening program) }
     {
         let inputs = declared_values(alloc, program.inputs.as_slice())?;
-        let states = fresh_states(alloc, &program, inputs.as_slice())?;
+        let states = states_of(alloc, &program, inputs.as_slice())?;
         Ok(Pipeline {
             program,
             version: 1,
@@ -131,7 +130,7 @@ impl Pipeline {
 
     /// Whether another version has a number.
     pub(crate) fn has_next(&self) -> bool
-        ensures { result ≡ true → self.now.version < 2 ^ 64 - 1 }
+        ensures { result ≡ nat_lt self.now.version (2 ^ 64 - 1) }
     {
         self.version < u64::MAX
     }

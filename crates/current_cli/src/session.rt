@@ -5,7 +5,7 @@ ghost use Rattle.io_ends.specs.Causes.{Rose, HasCause, AppendsFront};
 ghost use Rattle.io_ends.specs.Lines.{TextLine, Bytes, Long, lines_of};
 ghost use Rattle.current_cli.specs.Marks.{Mark, Did, Stopped, Print};
 ghost use Rattle.current_cli.specs.Controls.{control};
-ghost use Rattle.current_cli.specs.Cores.{Core, opening, states, answer, answer_to, set_input, with_input, after};
+ghost use Rattle.current_cli.specs.Cores.{Core, IsNumbered, opening, states, answer, answer_to, set_input, with_input, after};
 ghost use Rattle.current_cli.specs.Lines.{refusal_text};
 ghost use Rattle.current_cli.specs.StopCauses.{StopHasCause};
 ghost use Rattle.current_cli.specs.Transcripts.{published, marks_of, marks_from, transcript, line_answer, IsRunOf, IsTold};
@@ -178,7 +178,7 @@ pub(crate) fn session<S: Source, K: Sink>(
     input: &mut S,
     out: &mut K,
 ) -> SessionEnd
-    requires { length program.nodes < 2 ^ 32 }
+    requires { IsNumbered program }
     // What was written is that of the first n marks, and perhaps a part of the next; with Quit it is that of all.
     ensures run { IsTold (S.left input.old) (λ bytes. IsRunOf (transcript program bytes) result (K.written out.old) (K.written out.new)) }
     ensures read { result ≡ SessionEnd.ReadFault → Rose (S.faults input.old) (S.faults input.new) }

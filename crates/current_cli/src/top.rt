@@ -4,6 +4,7 @@ ghost use Rattle.io_ends.specs.Causes.{Rose};
 ghost use Rattle.term_core.specs.declared.program.Program.{Program};
 ghost use Rattle.pipe_text.specs.Standing.{StandsFor};
 ghost use Rattle.current_cli.specs.Checking.{IsSound};
+ghost use Rattle.current_cli.specs.Cores.{IsNumbered};
 ghost use Rattle.current_cli.specs.Marks.{Did, Stopped, Print};
 ghost use Rattle.current_cli.specs.Top.{IsRun, IsRunOn, HoldsPipeline, file_of, end_status};
 
@@ -23,7 +24,7 @@ fn sound_program(alloc: Global, content: &[u8]) -> Result<Option<Program>, Alloc
     ensures some { IfOk result (λ o. IfSome o (λ p. StandsFor content.now p × IsSound p)) }
     ensures only { IfOk result (λ o. IfSome o (λ p. (q : Program) → StandsFor content.now q → q ≡ p)) }
     ensures none { IfOk result (λ o. IfNone o ((p : Program) → StandsFor content.now p → IsSound p → ⊥)) }
-    ensures few { IfOk result (λ o. IfSome o (λ p. length p.nodes < 2 ^ 32)) }
+    ensures numbered { IfOk result (λ o. IfSome o (λ p. IsNumbered p)) }
 {
     match read_pipeline(alloc, content) {
         Err(ReadFault::NoMemory) => Err(AllocError),

@@ -20,7 +20,7 @@ use Rattle.pipe_text.specs.declared.fault.LimitName.{LimitName}
 use Rattle.pipe_text.specs.declared.fault.LimitName.TheVariants as limit
 use Rattle.pipe_text.specs.declared.declarations.SoFar.{SoFar}
 use Rattle.pipe_text.specs.Words.{decl_letters, decl_word, all_decls}
-use Rattle.pipe_text.specs.Grammar.{kinds, Limits, NameIs, TextIs, Spells, nothing, with_input, with_node, Declares, no_more, one_input, one_node}
+use Rattle.pipe_text.specs.Grammar.{kinds, Limits, NameIs, TextIs, Spells, nothing, with_input, with_node, Declares, no_more, one_input, one_node, unwatched}
 use Rattle.pipe_text.specs.Standing.{input_names, node_names}
 use Rattle.pipe_text.specs.Readers.{◌>>=◌, give, seq, unless_ended, number_choice, number_at, only, word_at, keyword_at}
 use Rattle.pipe_text.specs.TermReading.{Counted, text_at, term_at}
@@ -91,11 +91,11 @@ finds_value lim = finds_same _ (Then (Lettered {W = Unit {0}} (λ u. codes "text
 
 -- an input behind its keyword
 abbrev InputLang : Bounds → SoFar → SoFar → List Token → Type 0
-InputLang b before x ks = (n t : List ℕ) × (k l : Token) × (ks ≡ k ∷ Name (codes "text") ∷ l ∷ []) × (x ≡ add_input before (record { name = n; value = value.Words t })) × NameIs b.lim n k × TextIs b.lim t l
+InputLang b before x ks = (n t : List ℕ) × (k l : Token) × (ks ≡ k ∷ Name (codes "text") ∷ l ∷ []) × (x ≡ add_input before (unwatched n (value.Words t))) × NameIs b.lim n k × TextIs b.lim t l
     × (length before.program.inputs < b.inputs) × (is_taken b.twice_inputs (input_names before.program) n ≡ false)
 
 input_parts : (b : Bounds) (before x : SoFar) (ks : List Token)
-    → Then (NewName b.lim (b.inputs - length before.program.inputs) (is_taken b.twice_inputs (input_names before.program))) (λ n. Dressed (λ v. add_input before (record { name = n; value = v })) (ValueLang b.lim)) x ks → InputLang b before x ks
+    → Then (NewName b.lim (b.inputs - length before.program.inputs) (is_taken b.twice_inputs (input_names before.program))) (λ n. Dressed (λ v. add_input before (unwatched n v)) (ValueLang b.lim)) x ks → InputLang b before x ks
 input_parts b before x ks (n, k1, k2, parts, ((k, one, name), room, free), (v, is, (t, l, v_is, two, text))) =
     (n, t, k, l, rw (parts, one, two) refl, rw (is, v_is) refl, name, text, omega (arith, room), free)
 
@@ -103,10 +103,10 @@ finds_input : (b : Bounds) (before : SoFar) → Finds (input_at b before) (Input
 unfolding input_at
 finds_input b before =
     let taken : List ℕ → Bool = is_taken b.twice_inputs (input_names before.program) in
-    finds_same _ (Then (NewName b.lim (b.inputs - length before.program.inputs) taken) (λ n. Dressed (λ v. add_input before (record { name = n; value = v })) (ValueLang b.lim))) (InputLang b before)
-    (finds_seq (declared_at b.lim limit.Inputs 256 (b.inputs - length before.program.inputs) taken) (λ n. seq (value_at b.lim) (λ v. give (add_input before (record { name = n; value = v })))) (NewName b.lim (b.inputs - length before.program.inputs) taken)
-    (λ n. Dressed (λ v. add_input before (record { name = n; value = v })) (ValueLang b.lim)) (finds_new b.lim limit.Inputs 256 (b.inputs - length before.program.inputs) taken)
-    (λ n. finds_as (value_at b.lim) (λ v. add_input before (record { name = n; value = v })) (ValueLang b.lim) (finds_value b.lim)))
+    finds_same _ (Then (NewName b.lim (b.inputs - length before.program.inputs) taken) (λ n. Dressed (λ v. add_input before (unwatched n v)) (ValueLang b.lim))) (InputLang b before)
+    (finds_seq (declared_at b.lim limit.Inputs 256 (b.inputs - length before.program.inputs) taken) (λ n. seq (value_at b.lim) (λ v. give (add_input before (unwatched n v)))) (NewName b.lim (b.inputs - length before.program.inputs) taken)
+    (λ n. Dressed (λ v. add_input before (unwatched n v)) (ValueLang b.lim)) (finds_new b.lim limit.Inputs 256 (b.inputs - length before.program.inputs) taken)
+    (λ n. finds_as (value_at b.lim) (λ v. add_input before (unwatched n v)) (ValueLang b.lim) (finds_value b.lim)))
     (input_parts b before)
 
 -- a node behind its keyword
@@ -145,7 +145,7 @@ pub record OneMore (b : Bounds) (before x : SoFar) (ks : List Token) : Type 0 wh
 
 one_more_input : (b : Bounds) (before x : SoFar) (ks : List Token) → InputLang b before x ks → OneMore b before x (Name (decl_letters decl.Input) ∷ ks)
 one_more_input b before x ks (n, t, k, l, parts, is, name, text, room, free) =
-    let d : InputDecl = record { name = n; value = value.Words t } in
+    let d : InputDecl = unwatched n (value.Words t) in
     rw (parts, is) (record {
       some = omega arith;
       sound = λ s. sound_input b before d s room free;

@@ -18,7 +18,7 @@ use Rattle.pipe_text.specs.declared.fault.LimitName.{LimitName}
 use Rattle.pipe_text.specs.declared.fault.LimitName.TheVariants as limit
 use Rattle.pipe_text.specs.declared.declarations.SoFar.{SoFar}
 use Rattle.pipe_text.specs.Words.{decl_letters, decl_word}
-use Rattle.pipe_text.specs.Grammar.{kinds, Limits, NameIs, TextIs, Spells, with_input, with_node, Declares, no_more, one_input, one_node}
+use Rattle.pipe_text.specs.Grammar.{kinds, Limits, NameIs, TextIs, Spells, with_input, with_node, Declares, no_more, one_input, one_node, unwatched}
 use Rattle.pipe_text.specs.Standing.{input_names, node_names}
 use Rattle.pipe_text.specs.Readers.{give, number_choice, number_at, only, word_at, keyword_at}
 use Rattle.pipe_text.specs.TermReading.{text_at, term_at}
@@ -53,13 +53,13 @@ reads_value lim wide t k u e =
     (reads_as Any (text_at wide) (λ x. value.Words x) t (k ∷ []) (reads_text lim wide t k u e))
 
 reads_input : (lim : Limits) (b : Bounds) (before : SoFar) (n t : List ℕ) (k l : Token) → Under lim b.lim → NameIs lim n k → TextIs lim t l → length before.program.inputs < b.inputs → is_taken b.twice_inputs (input_names before.program) n ≡ false
-    → Takes (decl_at b before) (add_input before (record { name = n; value = value.Words t })) (Name (decl_letters decl.Input) ∷ k ∷ Name (codes "text") ∷ l ∷ [])
+    → Takes (decl_at b before) (add_input before (unwatched n (value.Words t))) (Name (decl_letters decl.Input) ∷ k ∷ Name (codes "text") ∷ l ∷ [])
 unfolding decl_at input_at
 reads_input lim b before n t k l u name text room free =
     reads_then Any (word_at decl_word) (rest_at b before) decl.Input _ (Name (decl_letters decl.Input) ∷ []) (k ∷ Name (codes "text") ∷ l ∷ []) (reads_word decl_word (decl_letters decl.Input) decl.Input (decl_word_is decl.Input))
     (reads_then Any (declared_at b.lim limit.Inputs 256 (b.inputs - length before.program.inputs) (is_taken b.twice_inputs (input_names before.program))) _ n _ (k ∷ []) (Name (codes "text") ∷ l ∷ [])
     (reads_new lim b.lim limit.Inputs 256 (b.inputs - length before.program.inputs) (is_taken b.twice_inputs (input_names before.program)) n k u name (omega (arith, room)) free)
-    (reads_as Any (value_at b.lim) (λ v. add_input before (record { name = n; value = v })) (value.Words t) (Name (codes "text") ∷ l ∷ []) (reads_value lim b.lim t l u text)))
+    (reads_as Any (value_at b.lim) (λ v. add_input before (unwatched n v)) (value.Words t) (Name (codes "text") ∷ l ∷ []) (reads_value lim b.lim t l u text)))
 
 reads_node : (lim : Limits) (b : Bounds) (before : SoFar) (n : List ℕ) (k : Token) (m : ℕ) (t : Term) (kt : List Token) → Under lim b.lim → NameIs lim n k → Spells lim lim.depth m t kt → length before.program.nodes < b.nodes
     → is_taken b.twice_nodes (node_names before.program) n ≡ false → m ≤ b.terms - before.terms → Takes (decl_at b before) (add_node before (record { name = n; term = t }) m) (Name (decl_letters decl.Node) ∷ k ∷ kt)
@@ -99,7 +99,7 @@ after_front b n before mid s (t ∷ front) rest k ks r fits e x next = goes_on b
 pub all_declared : (lim : Limits) (b : Bounds) (m : ℕ) (p : Program) (ks : List Token) → Under lim b.lim → Declares lim m p ks → Wanted b m p ks
 all_declared lim b m p ks u no_more before n place ts e fits s = rw (nil_of ts e) (ended b n before place ∙ ap (λ (x : SoFar). Ok (x, [])) (sym (joined_nothing before)))
 all_declared lim b m p ks u (one_input i name text k l q more is_name is_text_of rest) before n place ts e fits s =
-    let d : InputDecl = record { name = name; value = value.Words text } in
+    let d : InputDecl = unwatched name (value.Words text) in
     let room = room_for_input b before d q i s in
     let parts = split_kinds ts (Name (decl_letters decl.Input) ∷ k ∷ Name (codes "text") ∷ l ∷ []) more e in
     let same = joined_input before d q i in

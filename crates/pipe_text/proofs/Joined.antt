@@ -12,16 +12,16 @@ use Rattle.pipe_text.proofs.Names.{map_append, once_more, not_taken, taken_new}
 
 -- the declarations of a program behind those before it, and so many terms more
 abbrev pub joined : SoFar → Program → ℕ → SoFar
-joined before p n = record { program = record { inputs = before.program.inputs ++ p.inputs; nodes = before.program.nodes ++ p.nodes }; terms = before.terms + n }
+joined before p n = record { program = record before.program { inputs = before.program.inputs ++ p.inputs; nodes = before.program.nodes ++ p.nodes }; terms = before.terms + n }
 
 pub joined_nothing : (before : SoFar) → joined before nothing 0 ≡ before
-joined_nothing before = λ i. record { program = record { inputs = append-nil before.program.inputs i; nodes = append-nil before.program.nodes i }; terms = (let e : before.terms + 0 ≡ before.terms = omega arith in e) i }
+joined_nothing before = λ i. record { program = record before.program { inputs = append-nil before.program.inputs i; nodes = append-nil before.program.nodes i }; terms = (let e : before.terms + 0 ≡ before.terms = omega arith in e) i }
 
 pub joined_input : (before : SoFar) (d : InputDecl) (p : Program) (n : ℕ) → joined (add_input before d) p n ≡ joined before (with_input d p) n
-joined_input before d p n = λ i. record { program = record { inputs = append_assoc before.program.inputs (d ∷ []) p.inputs i; nodes = before.program.nodes ++ p.nodes }; terms = before.terms + n }
+joined_input before d p n = λ i. record { program = record before.program { inputs = append_assoc before.program.inputs (d ∷ []) p.inputs i; nodes = before.program.nodes ++ p.nodes }; terms = before.terms + n }
 
 pub joined_node : (before : SoFar) (d : NodeDecl) (m : ℕ) (p : Program) (n : ℕ) → joined (add_node before d m) p n ≡ joined before (with_node d p) (m + n)
-joined_node before d m p n = λ i. record { program = record { inputs = before.program.inputs ++ p.inputs; nodes = append_assoc before.program.nodes (d ∷ []) p.nodes i }; terms = (let e : before.terms + m + n ≡ before.terms + (m + n) = omega arith in e) i }
+joined_node before d m p n = λ i. record { program = record before.program { inputs = before.program.inputs ++ p.inputs; nodes = append_assoc before.program.nodes (d ∷ []) p.nodes i }; terms = (let e : before.terms + m + n ≡ before.terms + (m + n) = omega arith in e) i }
 
 -- within the bounds, and no name twice unless it may be
 pub record Sound (b : Bounds) (x : SoFar) : Type 0 where

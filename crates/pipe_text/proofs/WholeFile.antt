@@ -3,7 +3,9 @@ use Rattle.std.proofs.Common.{◌≡◌, ℕ, zero, suc, ◌+◌, ◌≤◌, Boo
 use Rattle.std.specs.Prelude.{Ok, Err, nat_lt, codes}
 use Rattle.std.specs.List.{IsDistinct}
 use Rattle.std.proofs.lemmas.Bool.Decides.{nat_tests}
+use Rattle.value_core.specs.declared.token.Token.{Token}
 use Rattle.value_core.specs.declared.token.Token.TheVariants.{Name, Number}
+use Rattle.value_core.specs.declared.value.Value.TheVariants as value
 use Rattle.value_core.specs.declared.token.Next.{Next}
 use Rattle.value_core.specs.declared.token.Next.TheVariants.{Found, End}
 use Rattle.value_core.specs.declared.lexing.Placed.{Placed}
@@ -17,7 +19,7 @@ use Rattle.pipe_text.specs.declared.fault.Fault.{Fault}
 use Rattle.pipe_text.specs.declared.fault.Fault.TheVariants.{Limit}
 use Rattle.pipe_text.specs.declared.fault.LimitName.TheVariants as limit
 use Rattle.pipe_text.specs.declared.declarations.SoFar.{SoFar}
-use Rattle.pipe_text.specs.Grammar.{kinds, FileSpells}
+use Rattle.pipe_text.specs.Grammar.{kinds, Limits, FileSpells, nothing, unwatched, with_input, with_node, Declares, no_more, one_input, one_node}
 use Rattle.pipe_text.specs.Standing.{file_limits, StandsFor}
 use Rattle.pipe_text.specs.Readers.{◌>>=◌, seq, number_at, keyword_at}
 use Rattle.pipe_text.specs.FileReading.{file_bounds, none_so_far, all_at, file_at, read_of}
@@ -51,6 +53,12 @@ lexed_end bytes place e = from_end (suc (length bytes)) bytes 0 place e
 sound_none : Sound file_bounds none_so_far
 unfolding IsDistinct
 sound_none = record { inputs = omega arith; nodes = omega arith; terms = omega arith; inputs_once = λ e. tt; nodes_once = λ e. tt }
+
+-- a file declares inputs and nodes alone
+only_these : (lim : Limits) (n : ℕ) (p : Program) (ks : List Token) → Declares lim n p ks → p ≡ record nothing { inputs = p.inputs; nodes = p.nodes }
+only_these lim n p ks no_more = refl
+only_these lim n p ks (one_input m name text k l q more a b rest) = ap (with_input (unwatched name (value.Words text))) (only_these lim m q more rest)
+only_these lim n p ks (one_node m i name k t q kt more a b rest) = ap (with_node (record { name = name; term = t })) (only_these lim i q more rest)
 
 -- what is known of the tokens of a file that was read
 record FileRead (x : SoFar) (s : Stop) (ts : List Placed) : Type 0 where
@@ -97,7 +105,7 @@ read_stands bytes p e =
     let parts = if_else (nat_lt 1048576 (length bytes)) (Limit limit.File 1048576 0) (file_at file_bounds (lexed bytes).stop (lexed bytes).tokens >>= λ x. Ok x.0.program) p e in
     let file = bind_ok (file_at file_bounds (lexed bytes).stop (lexed bytes).tokens) (λ x. Ok x.0.program) p parts.1 in
     let read = file_found (lexed bytes).stop (lexed bytes).tokens file.0.1 file.0.0 file.1 in
-    let same : p ≡ read.program = sym (ok_is file.0.0.program p file.2) ∙ ap (λ (x : SoFar). x.program) read.is in
+    let same : p ≡ read.program = sym (ok_is file.0.0.program p file.2) ∙ (ap (λ (x : SoFar). x.program) read.is ∙ sym (only_these file_limits read.terms read.program read.spelled.0 read.spelled.2)) in
     let sound : Sound file_bounds (joined none_so_far read.program read.terms) = subst (Sound file_bounds) read.is read.sound in
     let terms : 0 + read.terms ≤ 4096 = sound.terms in
     let place = lexed_end bytes read.place read.ended in
@@ -107,6 +115,7 @@ read_stands bytes p e =
       ended = read.ended ∙ ap stop.End place;
       spelled = read.spelled;
       few_inputs = sound.inputs;
+      few_ops = rw (only_these file_limits read.terms read.program read.spelled.0 read.spelled.2) (omega arith);
       few_nodes = sound.nodes;
       few_terms = omega (arith, terms);
       inputs_once = sound.inputs_once refl;
@@ -132,7 +141,7 @@ unfolding read_of
 standing_read bytes p s =
     let few = s.few_terms in
     let sound : Sound file_bounds (joined none_so_far p s.terms) = record { inputs = s.few_inputs; nodes = s.few_nodes; terms = omega (arith, few); inputs_once = λ e. s.inputs_once; nodes_once = λ e. s.nodes_once } in
-    rw (not_more 1048576 (length bytes) s.few_bytes, s.ended, file_read s.terms p (length bytes) (lexed bytes).tokens s.spelled sound) refl
+    rw (not_more 1048576 (length bytes) s.few_bytes, s.ended, file_read s.terms p (length bytes) (lexed bytes).tokens s.spelled sound) (ap Ok (sym (only_these file_limits s.terms p s.spelled.0 s.spelled.2)))
 
 pub one_program : (bytes : List ℕ) (p q : Program) → read_of bytes ≡ Ok p → StandsFor bytes q → p ≡ q
 one_program bytes p q e s = ok_is p q (sym e ∙ standing_read bytes q s)

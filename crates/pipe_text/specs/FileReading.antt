@@ -18,7 +18,7 @@ use Rattle.pipe_text.specs.declared.fault.LimitName.{LimitName}
 use Rattle.pipe_text.specs.declared.fault.LimitName.TheVariants as limit
 use Rattle.pipe_text.specs.declared.declarations.SoFar.{SoFar}
 use Rattle.pipe_text.specs.Words.{decl_word}
-use Rattle.pipe_text.specs.Grammar.{Limits, nothing}
+use Rattle.pipe_text.specs.Grammar.{Limits, nothing, unwatched}
 use Rattle.pipe_text.specs.Standing.{file_limits, input_names, node_names}
 use Rattle.pipe_text.specs.Readers.{◌>>=◌, Reader, give, refuse, seq, Choice, branch, unless_ended, number_at, word_at, keyword_at}
 use Rattle.pipe_text.specs.TermReading.{text_at, term_at}
@@ -56,11 +56,11 @@ declared_at lim what most room taken = branch (declared_choice lim what most roo
 
 -- one more input behind the others
 abbrev pub add_input : SoFar → InputDecl → SoFar
-add_input before d = record { program = record { inputs = before.program.inputs ++ d ∷ []; nodes = before.program.nodes }; terms = before.terms }
+add_input before d = record { program = record before.program { inputs = before.program.inputs ++ d ∷ [] }; terms = before.terms }
 
 -- one more node behind the others, of so many terms
 abbrev pub add_node : SoFar → NodeDecl → ℕ → SoFar
-add_node before d n = record { program = record { inputs = before.program.inputs; nodes = before.program.nodes ++ d ∷ [] }; terms = before.terms + n }
+add_node before d n = record { program = record before.program { nodes = before.program.nodes ++ d ∷ [] }; terms = before.terms + n }
 
 -- the value of an input, behind its name
 unfoldable pub value_at : Limits → Reader Value
@@ -69,7 +69,7 @@ value_at lim = seq (keyword_at (codes "text")) (λ u. seq (text_at lim) (λ t. g
 -- an input behind its keyword
 unfoldable pub input_at : Bounds → SoFar → Reader SoFar
 input_at b before = seq (declared_at b.lim limit.Inputs 256 (b.inputs - length before.program.inputs) (is_taken b.twice_inputs (input_names before.program)))
-    (λ n. seq (value_at b.lim) (λ v. give (add_input before (record { name = n; value = v }))))
+    (λ n. seq (value_at b.lim) (λ v. give (add_input before (unwatched n v))))
 
 -- a node behind its keyword
 unfoldable pub node_at : Bounds → SoFar → Reader SoFar

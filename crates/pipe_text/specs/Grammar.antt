@@ -4,7 +4,7 @@
 -- decl = "input" name "text" string | "node" name term
 -- term = "(" body ")"
 -- body = "return" ( string | number ) | "input" name | "node" name | "pair" term term
-use Rattle.std.specs.Prelude.{◌≡◌, ℕ, suc, ◌+◌, Bool, true, List, [], ◌∷◌, ◌++◌, map, codes}
+use Rattle.std.specs.Prelude.{◌≡◌, ℕ, suc, ◌+◌, Bool, true, List, [], ◌∷◌, ◌++◌, map, codes, Option, None}
 use Rattle.value_core.specs.declared.token.Token.{Token}
 use Rattle.value_core.specs.declared.token.Token.TheVariants.{Name, Number, Words, Mark, LongName, LongText}
 use Rattle.value_core.specs.declared.lexing.Placed.{Placed}
@@ -60,21 +60,25 @@ pub data Spells (lim : Limits) : ℕ → ℕ → Term → List Token → Type 0 
 
 -- the program that declares nothing
 abbrev pub nothing : Program
-nothing = record { inputs = []; nodes = [] }
+nothing = record { version = 1; inputs = []; pools = []; clients = []; workers = []; ops = []; nodes = [] }
+
+-- an input that no file sets
+abbrev pub unwatched : List ℕ → Value → InputDecl
+unwatched n v = record { name = n; value = v; watch = None }
 
 -- an input in front of the others
 abbrev pub with_input : InputDecl → Program → Program
-with_input d p = record { inputs = d ∷ p.inputs; nodes = p.nodes }
+with_input d p = record p { inputs = d ∷ p.inputs }
 
 -- a node in front of the others
 abbrev pub with_node : NodeDecl → Program → Program
-with_node d p = record { inputs = p.inputs; nodes = d ∷ p.nodes }
+with_node d p = record p { nodes = d ∷ p.nodes }
 
 -- Which tokens declarations are spelled by, in the order of the file, with just so many terms in all. The program has those of each kind in that order.
 pub data Declares (lim : Limits) : ℕ → Program → List Token → Type 0 where
   no_more : Declares lim 0 nothing []
   one_input : (n : ℕ) (name text : List ℕ) (k l : Token) (p : Program) (ks : List Token) → NameIs lim name k → TextIs lim text l → Declares lim n p ks
-      → Declares lim n (with_input (record { name = name; value = value.Words text }) p) (Name (decl_letters decl.Input) ∷ k ∷ Name (codes "text") ∷ l ∷ ks)
+      → Declares lim n (with_input (unwatched name (value.Words text)) p) (Name (decl_letters decl.Input) ∷ k ∷ Name (codes "text") ∷ l ∷ ks)
   one_node : (m n : ℕ) (name : List ℕ) (k : Token) (t : Term) (p : Program) (kt ks : List Token) → NameIs lim name k → Spells lim lim.depth m t kt → Declares lim n p ks
       → Declares lim (m + n) (with_node (record { name = name; term = t }) p) (Name (decl_letters decl.Node) ∷ k ∷ (kt ++ ks))
 

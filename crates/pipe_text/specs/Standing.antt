@@ -35,6 +35,7 @@ pub record StandsFor (bytes : List ℕ) (p : Program) : Type 0 where
   pub ended : (lexed bytes).stop ≡ stop.End (length bytes)
   pub spelled : FileSpells file_limits terms p (kinds (lexed bytes).tokens)
   pub few_inputs : length p.inputs ≤ 256
+  pub few_ops : length p.ops ≤ 256
   pub few_nodes : length p.nodes ≤ 1000
   pub few_terms : terms ≤ 4096
   pub inputs_once : Once (input_names p)

@@ -6,6 +6,7 @@ ghost use Rattle.std.specs.Cmp.Lexicographic.{slice_cmp};
 ghost use Rattle.std.specs.BTreeSet.{contains};
 ghost use Rattle.pipe_text.specs.Readers.{Gives};
 ghost use Rattle.pipe_text.specs.Standing.{file_limits};
+ghost use Rattle.pipe_text.specs.Grammar.{unwatched};
 ghost use Rattle.pipe_text.specs.FileReading.{file_bounds, declared_at, add_input, add_node, value_at, input_at, node_at, decl_at, none_so_far, all_at, file_at};
 ghost use Rattle.pipe_text.specs.Looking.{Kept};
 
@@ -41,7 +42,12 @@ fn no_declarations(alloc: Global) -> Declarations
     ensures kept { Kept result }
 {
     let program = Program {
+        version: 1,
         inputs: ListOf::new(alloc),
+        pools: ListOf::new(alloc),
+        clients: ListOf::new(alloc),
+        workers: ListOf::new(alloc),
+        ops: ListOf::new(alloc),
         nodes: ListOf::new(alloc),
     };
     Declarations {
@@ -104,11 +110,16 @@ fn declare_input(
 ) -> Result<(), AllocError>
     requires kept { Kept it.now }
     requires room { length it.now.so_far.program.inputs < 256 }
-    ensures added { OnOk result (it.new.so_far ≡ add_input it.old.so_far (record { name = name; value = value })) }
+    ensures added { OnOk result (it.new.so_far ≡ add_input it.old.so_far (unwatched name value)) }
     ensures kept { OnOk result (Kept it.new) }
 {
     see(alloc, &mut it.inputs, &name)?;
-    it.so_far.program.inputs.push(InputDecl { name, value })
+    let input = InputDecl {
+        name,
+        value,
+        watch: None,
+    };
+    it.so_far.program.inputs.push(input)
 }
 
 /// Declares one more node, of so many terms.

@@ -1,2 +1,5 @@
 pub mod Evaluating
-pub mod Freshly
+pub mod Gathered
+pub mod Resumes
+pub mod Kept
+pub mod Agreeing

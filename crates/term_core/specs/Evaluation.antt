@@ -1,26 +1,38 @@
--- What a term comes to in a node, evaluated afresh.
-use Rattle.std.specs.Prelude.{ℕ, ◌+◌, List, [], ◌∷◌, ◌++◌, map, Option, Some, None, slice_get}
+-- What a term comes to in a node, with what it wants and how many terms are visited.
+use Rattle.std.specs.Prelude.{ℕ, Bool, true, if◌then◌else◌, List, [], ◌∷◌, ◌++◌, map, codes, Option, Some, None, slice_get}
+use Rattle.std.specs.Str.{bytes_eq}
 use Rattle.value_core.specs.declared.value.Value.{Value}
 use Rattle.value_core.specs.declared.value.Value.TheVariants as value
 use Rattle.value_core.specs.declared.state.State.{State}
-use Rattle.value_core.specs.declared.state.State.TheVariants.{Fine}
+use Rattle.value_core.specs.declared.state.State.TheVariants.{Fine, Failed, Active}
+use Rattle.value_core.specs.declared.state.Triple.{Triple}
+use Rattle.value_core.specs.declared.function.Fun.{Fun}
+use Rattle.op_keys.specs.declared.declarations.OpDecl.{OpDecl}
+use Rattle.op_keys.specs.Orders.{order_fits}
 use Rattle.term_core.specs.declared.program.Term.{Term, Term-F, fold-Term}
 use Rattle.term_core.specs.declared.program.Program.{Program}
 use Rattle.term_core.specs.declared.program.InputDecl.{InputDecl}
 use Rattle.term_core.specs.declared.program.NodeDecl.{NodeDecl}
-use Rattle.term_core.specs.Names.{place_named}
-use Rattle.term_core.specs.States.{limited, both}
+use Rattle.term_core.specs.declared.reading.Binding.{Binding}
+use Rattle.term_core.specs.declared.entries.Entry.{Entry}
+use Rattle.term_core.specs.declared.entries.Entry.TheVariants as entry
+use Rattle.op_keys.specs.Names.{place_named}
+use Rattle.term_core.specs.States.{listed, passed, paired, mapped, caught, observed, gated}
+use Rattle.term_core.specs.Runs.{Run, stated, visited, turned, after, then_do, then_both, together}
+use Rattle.value_core.specs.Parts.{text_in, items_in}
+use Rattle.term_core.specs.World.{World, entry_of}
 
--- what a term is evaluated against: its node's number, a value for each input, the states of the earlier nodes
+-- what a term is evaluated against: its node's number, a value for each input, the states of the earlier nodes, and the entries
 pub record Given : Type 0 where
   pub program : Program
   pub node : ℕ
   pub inputs : List Value
   pub earlier : List State
+  pub world : World
 
 -- the same, by its parts
-abbrev pub given_of : Program → ℕ → List Value → List State → Given
-given_of program node inputs earlier = record { program = program; node = node; inputs = inputs; earlier = earlier }
+abbrev pub given_of : Program → ℕ → List Value → List State → World → Given
+given_of program node inputs earlier world = record { program = program; node = node; inputs = inputs; earlier = earlier; world = world }
 
 -- a value that is there, or unit
 abbrev pub value_or_unit : Option Value → Value
@@ -40,42 +52,101 @@ input_named decls values n = value_or_unit (slice_get values (place_named 0 (map
 abbrev pub node_named : List NodeDecl → List State → List ℕ → State
 node_named decls states n = state_or_unit (slice_get states (place_named 0 (map (λ d. d.name) decls) n))
 
--- the pair of two values, within the limit of weight
-abbrev pub pair_made : ℕ → List Value → State
-pair_made node (a ∷ b ∷ vs) = limited node (value.Pair a b)
-pair_made node _ = Fine value.Unit
+-- the value bound last to this name, among those bound in order, or the one that was found before
+abbrev pub innermost : Value → List Binding → List ℕ → Value
+innermost found [] n = found
+innermost found (b ∷ bs) n = innermost (if bytes_eq b.name n then b.value else found) bs n
 
--- both states, as a pair
-unfoldable pub pair_state : ℕ → State → State → State
-pair_state node a b = both (a ∷ b ∷ []) (pair_made node)
+-- the bound values with one more
+abbrev pub bind : List Binding → List ℕ → Value → List Binding
+bind bound name v = bound ++ record { name = name; value = v } ∷ []
 
--- one layer of a term, where each part is its state
-abbrev pub term_step : Given → Term-F State → State
-term_step given (Term-F.Return v) = Fine v
-term_step given (Term-F.Input n) = Fine (input_named given.program.inputs given.inputs n)
-term_step given (Term-F.Node n) = node_named given.program.nodes given.earlier n
-term_step given (Term-F.Pair a b) = pair_state given.node a b
+-- the triple of a key and a value for the operation of this name
+abbrev pub triple_of : Given → List ℕ → List ℕ → List ℕ → Triple
+triple_of given op key v = record { op = place_named 0 (map (λ d. d.name) given.program.ops) op; key = key; value = v }
+
+-- whether each word of the operation's order is short enough; what isn't declared has no words
+abbrev pub fits : Option OpDecl → Triple → Bool
+fits (Some d) t = order_fits d t.key t.value
+fits None t = true
+
+-- the state of an entry, where a fine row's text stands for a value
+abbrev pub entry_state : ℕ → (List ℕ → Value) → Entry → State
+entry_state node meant (entry.Fine t) = Fine (meant t)
+entry_state node meant (entry.Bad m) = Failed node m
+entry_state node meant (entry.Active stage) = Active node stage
+
+-- a triple that is wanted once more
+abbrev pub wanted : Given → (List ℕ → Value) → Triple → Run
+wanted given meant t = record { state = entry_state given.node meant (entry_of given.world t); wants = t ∷ []; ticks = 0 }
+
+-- the lookup of a triple: one whose order has a word that is too long is not wanted
+unfoldable pub looked_up : Given → (List ℕ → Value) → Triple → Run
+looked_up given meant t = if fits (slice_get given.program.ops t.op) t then wanted given meant t else stated (Failed given.node (codes "order too long"))
+
+-- what a term comes to under the bound values, the innermost last
+abbrev pub Meaning : Type 0
+Meaning = List Binding → Run
+
+-- a function of the term's value
+unfoldable pub map_run : Given → Fun → Meaning → Meaning
+map_run given f t bound = visited (turned (mapped given.node f) (t bound))
+
+-- both terms, as a pair
+unfoldable pub pair_run : Given → Meaning → Meaning → Meaning
+pair_run given a b bound = visited (together (a bound ∷ b bound ∷ []) (paired given.node))
+
+-- the body under the left term's value
+unfoldable pub bind_run : List ℕ → Meaning → Meaning → Meaning
+bind_run name left body bound = visited (then_do (left bound) (λ v. body (bind bound name v)))
+
+-- the body under each of the items, and what is made of the values
+unfoldable pub items_run : (List Value → State) → List ℕ → List Value → Meaning → Meaning
+items_run made name items body bound = together (map (λ x. body (bind bound name x)) items) made
+
+-- the body under each item of a list term
+unfoldable pub list_run : (List Value → State) → List ℕ → Meaning → Meaning → Meaning
+list_run made name list body bound = visited (then_do (list bound) (λ v. items_run made name (items_in v) body bound))
+
+-- a term's state as an outcome
+unfoldable pub outcome_run : (State → State) → Meaning → Meaning
+outcome_run turn t bound = visited (turned turn (t bound))
+
+-- both terms are evaluated; the second counts where the first is fine
+unfoldable pub gate_run : Meaning → Meaning → Meaning
+gate_run on t bound = visited (after (on bound) (gated (on bound).state) (t bound))
+
+-- all terms, as unit
+unfoldable pub all_run : List Run → Run
+all_run rs = visited (together rs passed)
+
+-- the lookup of a key
+unfoldable pub build_run : Given → List ℕ → Meaning → Meaning
+build_run given op key bound = visited (then_do (key bound) (λ k. looked_up given value.Words (triple_of given op (text_in k) [])))
+
+-- the lookup of a key and a value
+unfoldable pub output_run : Given → List ℕ → Meaning → Meaning → Meaning
+output_run given op key v bound = visited (then_both (key bound) (v bound) (λ k x. looked_up given (λ t. value.Unit) (triple_of given op (text_in k) (text_in x))))
+
+-- one layer of a term, where each part is its meaning
+abbrev pub term_step : Given → Term-F Meaning → Meaning
+term_step given (Term-F.Return v) bound = visited (stated (Fine v))
+term_step given (Term-F.Fail kind m) bound = visited (stated (Failed given.node m))
+term_step given (Term-F.Input n) bound = visited (stated (Fine (input_named given.program.inputs given.inputs n)))
+term_step given (Term-F.Node n) bound = visited (stated (node_named given.program.nodes given.earlier n))
+term_step given (Term-F.Var n) bound = visited (stated (Fine (innermost value.Unit bound n)))
+term_step given (Term-F.Map f t) bound = map_run given f t bound
+term_step given (Term-F.Pair a b) bound = pair_run given a b bound
+term_step given (Term-F.Bind n t u) bound = bind_run n t u bound
+term_step given (Term-F.ListMap n t u) bound = list_run (listed given.node) n t u bound
+term_step given (Term-F.ListIter n t u) bound = list_run passed n t u bound
+term_step given (Term-F.Catch t) bound = outcome_run caught t bound
+term_step given (Term-F.State t) bound = outcome_run observed t bound
+term_step given (Term-F.Gate on t) bound = gate_run on t bound
+term_step given (Term-F.All ts) bound = all_run (map (λ t. t bound) ts)
+term_step given (Term-F.Build op k) bound = build_run given op k bound
+term_step given (Term-F.Output op k v) bound = output_run given op k v bound
 
 -- what a term comes to
-abbrev pub eval : Given → Term → State
-eval given = fold-Term State (term_step given)
-
--- what the term of a declaration comes to
-abbrev pub decl_state : Given → Option NodeDecl → State
-decl_state given None = Fine value.Unit
-decl_state given (Some d) = eval given d.term
-
--- what the node's own term comes to
-abbrev pub node_state : Given → State
-node_state given = decl_state given (slice_get given.program.nodes given.node)
-
--- the nodes in file order from a number on, each over the states of the earlier ones
-abbrev pub fresh_from : Program → List Value → ℕ → List State → List NodeDecl → List State
-fresh_from program inputs at earlier [] = []
-fresh_from program inputs at earlier (d ∷ ds) =
-    let s : State = eval (given_of program at inputs earlier) d.term in
-    s ∷ fresh_from program inputs (at + 1) (earlier ++ s ∷ []) ds
-
--- the states of all nodes over these values of the inputs, keeping nothing from before
-unfoldable pub fresh : Program → List Value → List State
-fresh program inputs = fresh_from program inputs 0 [] program.nodes
+abbrev pub eval : Given → Term → Meaning
+eval given = fold-Term Meaning (term_step given)

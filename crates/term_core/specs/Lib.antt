@@ -1,3 +1,10 @@
-pub mod Names
+pub mod World
 pub mod States
+pub mod Gathering
+pub mod Runs
 pub mod Evaluation
+pub mod Fresh
+pub mod Views
+pub mod Laws
+pub mod Limits
+pub mod Soundness

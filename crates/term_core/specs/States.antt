@@ -1,9 +1,15 @@
--- States of several terms together.
+-- States of terms, put together and turned into others.
 use Rattle.std.specs.Prelude.{ℕ, nat_lt, if◌then◌else◌, List, [], ◌∷◌, codes, Option, Some, None}
 use Rattle.value_core.specs.Values.{weight_of}
 use Rattle.value_core.specs.declared.value.Value.{Value}
+use Rattle.value_core.specs.declared.value.Value.TheVariants as value
+use Rattle.value_core.specs.declared.value.Outcome.TheVariants as outcome
 use Rattle.value_core.specs.declared.state.State.{State}
 use Rattle.value_core.specs.declared.state.State.TheVariants.{Fine, Failed, Active}
+use Rattle.value_core.specs.declared.function.Applied.{Applied}
+use Rattle.value_core.specs.declared.function.Applied.TheVariants as applied
+use Rattle.value_core.specs.declared.function.Fun.{Fun}
+use Rattle.value_core.specs.Functions.{fn_value}
 
 -- the greatest weight of a value in a state
 abbrev pub weight_limit : ℕ
@@ -42,3 +48,45 @@ or_else None other = other
 -- the first failed state; else the first active one; else what is made of the values
 abbrev pub both : List State → (List Value → State) → State
 both ss made = or_else (first_failed ss) (or_else (first_active ss) (made (values_in ss)))
+
+-- the list of the values, within the limit of weight
+abbrev pub listed : ℕ → List Value → State
+listed node vs = limited node (value.List vs)
+
+-- unit, whatever the values are
+abbrev pub passed : List Value → State
+passed vs = Fine value.Unit
+
+-- the pair of two values, within the limit of weight
+abbrev pub paired : ℕ → List Value → State
+paired node (a ∷ b ∷ vs) = limited node (value.Pair a b)
+paired node vs = Fine value.Unit
+
+-- the value of a function, or a failure with its message
+abbrev pub applied_state : ℕ → Applied → State
+applied_state node (applied.Fine v) = Fine v
+applied_state node (applied.Bad m) = Failed node m
+
+-- a function of the value of a fine state
+abbrev pub mapped : ℕ → Fun → State → State
+mapped node f (Fine v) = applied_state node (fn_value f v)
+mapped node f (Failed o m) = Failed o m
+mapped node f (Active o g) = Active o g
+
+-- a value or a message as an outcome
+abbrev pub caught : State → State
+caught (Fine v) = Fine (value.Out (outcome.Fine v))
+caught (Failed o m) = Fine (value.Out (outcome.Bad m))
+caught (Active o g) = Active o g
+
+-- the same, where an active state is an outcome too
+abbrev pub observed : State → State
+observed (Fine v) = Fine (value.Out (outcome.Fine v))
+observed (Failed o m) = Fine (value.Out (outcome.Bad m))
+observed (Active o g) = Fine (value.Out outcome.Going)
+
+-- the second state, where the first is fine
+abbrev pub gated : State → State → State
+gated (Fine v) s = s
+gated (Failed o m) s = Failed o m
+gated (Active o g) s = Active o g

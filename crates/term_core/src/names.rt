@@ -1,8 +1,9 @@
 //! Declarations by their names.
 ghost use Rattle.std.specs.Prelude.{◌≡◌, ℕ, ◌≤◌, map, length, List};
-ghost use Rattle.term_core.specs.Names.{place_named};
+ghost use Rattle.op_keys.specs.Names.{place_named};
 
 use crate::program::{InputDecl, NodeDecl};
+use op_keys::{OpDecl, PoolDecl, WorkerDecl};
 use value_core::Text;
 
 /// What has a name.
@@ -23,6 +24,30 @@ impl Named for InputDecl {
 }
 
 impl Named for NodeDecl {
+    ghost named = { λ d. d.name };
+
+    fn name(&self) -> &Text {
+        &self.name
+    }
+}
+
+impl Named for OpDecl {
+    ghost named = { λ d. d.name };
+
+    fn name(&self) -> &Text {
+        &self.name
+    }
+}
+
+impl Named for PoolDecl {
+    ghost named = { λ d. d.name };
+
+    fn name(&self) -> &Text {
+        &self.name
+    }
+}
+
+impl Named for WorkerDecl {
     ghost named = { λ d. d.name };
 
     fn name(&self) -> &Text {

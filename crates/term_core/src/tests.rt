@@ -1,61 +1,457 @@
-use crate::*;
+//! Terms with their states, wants and ticks, worked by hand.
+ghost use Rattle.std.specs.Prelude.{◌≡◌, ◌<◌};
+
+use crate::{
+    Entries, Entry, Evaluated, FailKind, Fresh, InputDecl, NodeDecl, Program, Term, eval_node,
+    fresh_states,
+};
+use op_keys::{Expiry, Level, OpDecl};
 use sqlite_items::Boxed;
-use std::alloc::{AllocError, Global};
+use std::alloc::Global;
+use std::marker::Brand;
+use std::process::Abort;
+use std::sync::ledger::{Blank, Ledger};
 use std::test::Fail;
-use value_core::{ListOf, State, Text, Value};
+use value_core::{
+    Fun, ListOf, NoMemory, Stage, State, Steps, Text, TextFault, Triple, Value, text_of,
+};
 
-/// One input `head` with the value `a`, and the nodes `tip` and `both`.
-fn first(alloc: Global) -> Result<Program, AllocError> {
-    let head = Text::of(alloc, "head")?;
-    let mut inputs = ListOf::new(alloc);
-    inputs.push(InputDecl {
-        name: Text::of(alloc, "head")?,
-        value: Value::Words(Text::of(alloc, "a")?),
-    })?;
-    let tip = Text::of(alloc, "tip")?;
-    let mut nodes = ListOf::new(alloc);
-    nodes.push(NodeDecl {
-        name: Text::of(alloc, "tip")?,
-        term: Term::Input(head),
-    })?;
-    nodes.push(NodeDecl {
-        name: Text::of(alloc, "both")?,
-        term: Term::Pair(
-            Boxed::new(alloc, Term::Node(tip))?,
-            Boxed::new(alloc, Term::Return(Value::Num(7)))?,
-        ),
-    })?;
-    Ok(Program { inputs, nodes })
+/// Entries that know one triple; every other one is ready.
+#[derive(Drop)]
+struct OneKnown {
+    known: Triple,
+    stage: Stage,
+}
+
+impl Entries for OneKnown {
+    ghost use Rattle.std.specs.Prelude.{[], ◌∷◌};
+    ghost use Rattle.term_core.specs.declared.entries.Entry.TheVariants as entry;
+
+    ghost world = { λ k. record { entries = (k.known, entry.Active k.stage) ∷ []; unstarted = [] } };
+
+    fn entry(&self, _alloc: Global, triple: &Triple) -> Result<Entry, NoMemory> {
+        let is_known = self.known.op == triple.op
+            && self.known.key.is(&triple.key)
+            && self.known.value.is(&triple.value);
+        if is_known {
+            Ok(Entry::Active(self.stage))
+        } else {
+            Ok(Entry::Active(Stage::Ready))
+        }
+    }
+}
+
+fn text(alloc: Global, text: &str) -> Result<Text, TextFault> {
+    Text::as_text(alloc, text.as_bytes())
+}
+
+fn words(alloc: Global, of: &str) -> Result<Term, Fail> {
+    Ok(Term::Return(Value::Words(text(alloc, of)?)))
+}
+
+fn failing(alloc: Global, message: &str) -> Result<Term, Fail> {
+    Ok(Term::Fail {
+        kind: FailKind::Unit,
+        message: text(alloc, message)?,
+    })
+}
+
+fn build(alloc: Global, op: &str, key: Term) -> Result<Term, Fail> {
+    Ok(Term::Build {
+        op: text(alloc, op)?,
+        key: Boxed::new(alloc, key)?,
+    })
+}
+
+fn pair(alloc: Global, a: Term, b: Term) -> Result<Term, NoMemory> {
+    Ok(Term::Pair(Boxed::new(alloc, a)?, Boxed::new(alloc, b)?))
+}
+
+fn map(alloc: Global, fun: Fun, term: Term) -> Result<Term, NoMemory> {
+    let term = Boxed::new(alloc, term)?;
+    Ok(Term::Map { fun, term })
+}
+
+/// The body, under each item of the input `xs`, as `x`.
+fn each_letter(alloc: Global, body: Term) -> Result<Term, Fail> {
+    let body = Boxed::new(alloc, body)?;
+    let list = Boxed::new(alloc, Term::Input(text(alloc, "xs")?))?;
+    Ok(Term::ListMap {
+        name: text(alloc, "x")?,
+        list,
+        body,
+    })
+}
+
+fn operation(alloc: Global, name: &str, output: bool, word: &str) -> Result<OpDecl, Fail> {
+    let mut words = ListOf::new(alloc);
+    words.push(text(alloc, word)?)?;
+    Ok(OpDecl {
+        name: text(alloc, name)?,
+        output,
+        pool: text(alloc, "p")?,
+        client: text(alloc, "c")?,
+        full: 1,
+        cached: 0,
+        hint: None,
+        urgent: false,
+        level: Level::Average,
+        expiry: Expiry::Never,
+        latched: false,
+        no_cancel: false,
+        words,
+    })
+}
+
+/// The operations `make` and `wide`, whose word is its key twice, and the output `put`.
+fn operations(alloc: Global) -> Result<ListOf<OpDecl>, Fail> {
+    let mut ops = ListOf::new(alloc);
+    ops.push(operation(alloc, "make", false, "{key}")?)?;
+    ops.push(operation(alloc, "wide", false, "{key}{key}")?)?;
+    ops.push(operation(alloc, "put", true, "{value}")?)?;
+    Ok(ops)
+}
+
+/// A list of one item.
+fn one<T: Drop>(alloc: Global, item: T) -> Result<ListOf<T>, NoMemory> {
+    let mut items = ListOf::new(alloc);
+    items.push(item)?;
+    Ok(items)
+}
+
+/// The value of the input `xs`, the list of `a` and `b`.
+fn letters(alloc: Global) -> Result<Value, Fail> {
+    let mut items = one(alloc, Value::Words(text(alloc, "a")?))?;
+    items.push(Value::Words(text(alloc, "b")?))?;
+    Ok(Value::List(items))
+}
+
+fn input(alloc: Global) -> Result<InputDecl, Fail> {
+    Ok(InputDecl {
+        name: text(alloc, "xs")?,
+        value: Value::Unit,
+        watch: None,
+    })
+}
+
+fn node(alloc: Global, name: &str, term: Term) -> Result<NodeDecl, Fail> {
+    Ok(NodeDecl {
+        name: text(alloc, name)?,
+        term,
+    })
+}
+
+/// The node `first`, which is 7, and the node `n` of the term.
+fn nodes(alloc: Global, term: Term) -> Result<ListOf<NodeDecl>, Fail> {
+    let first = node(alloc, "first", Term::Return(Value::Num(7)))?;
+    let mut nodes = one(alloc, first)?;
+    nodes.push(node(alloc, "n", term)?)?;
+    Ok(nodes)
+}
+
+fn program_of(
+    alloc: Global,
+    inputs: ListOf<InputDecl>,
+    ops: ListOf<OpDecl>,
+    nodes: ListOf<NodeDecl>,
+) -> Program {
+    Program {
+        version: 1,
+        inputs,
+        pools: ListOf::new(alloc),
+        clients: ListOf::new(alloc),
+        workers: ListOf::new(alloc),
+        ops,
+        nodes,
+    }
+}
+
+/// A pipeline with these nodes, the input `xs` and the operations.
+fn pipeline(alloc: Global, nodes: ListOf<NodeDecl>) -> Result<Program, Fail> {
+    let inputs = one(alloc, input(alloc)?)?;
+    let ops = operations(alloc)?;
+    Ok(program_of(alloc, inputs, ops, nodes))
+}
+
+/// A state in words, without its origin.
+fn told(alloc: Global, state: &State) -> Result<Text, Fail> {
+    match state {
+        State::Fine(value) => Ok(text_of(alloc, value)?),
+        State::Failed { origin: _, message } => Ok(message.copy(alloc)?),
+        State::Active { origin: _, stage } => Ok(text(
+            alloc,
+            match stage {
+                Stage::Ready => "ready",
+                Stage::Waiting => "waiting",
+                Stage::Running => "running",
+            },
+        )?),
+    }
+}
+
+/// The build `make` of `a`, which is running.
+fn running(alloc: Global) -> Result<OneKnown, Fail> {
+    Ok(OneKnown {
+        known: Triple {
+            op: 0,
+            key: text(alloc, "a")?,
+            value: Text::new(alloc),
+        },
+        stage: Stage::Running,
+    })
+}
+
+/// Evaluates node 1 of the pipeline, where the build `make` of `a` is running and all else is ready.
+fn second_node<L: Ledger>(
+    alloc: Global,
+    program: &Program,
+    values: &[Value],
+    earlier: &[State],
+    blank: Blank,
+) -> Result<(Evaluated, u64), Fail>
+    requires name { blank.name ≡ L.name }
+    requires parts { blank.parts ≡ L.parts }
+    requires some { 0 < blank.parts }
+{
+    let entries = running(alloc)?;
+    let mut steps = Steps::<L>::new(blank);
+    if program.nodes.len() < 2 || program.ops.len() > 3 {
+        return Err("no such program")?;
+    }
+    let came = eval_node(alloc, program, 1, values, earlier, &entries, &mut steps)?;
+    Ok((came, steps.shown()))
+}
+
+/// Evaluates the term in node 1, behind the node `first`, which is 7.
+fn evaluated(alloc: Global, term: Term) -> Result<(Evaluated, u64), Fail> {
+    let program = pipeline(alloc, nodes(alloc, term)?)?;
+    let values = one(alloc, letters(alloc)?)?;
+    let earlier = one(alloc, State::Fine(Value::Num(7)))?;
+    second_node::<Brand>(
+        alloc,
+        &program,
+        values.as_slice(),
+        earlier.as_slice(),
+        Blank::new(1),
+    )
+}
+
+fn expect(
+    rt: &impl Abort,
+    alloc: Global,
+    term: Term,
+    state: &str,
+    keys: &[&str],
+    ticks: u64,
+) -> Result<(), Fail> {
+    let (came, shown) = evaluated(alloc, term)?;
+    assert_eq!(rt; told(alloc, &came.state)?.as_str(), state);
+    assert_eq!(rt; came.wants.len(), keys.len(), "wants of {state}");
+    for (want, key) in came.wants.as_slice().iter().zip(keys) {
+        assert_eq!(rt; want.key.as_str(), *key);
+    }
+    assert_eq!(rt; shown, ticks, "ticks of {state}");
+    Ok(())
 }
 
 #[test]
-fn nodes_are_evaluated_in_file_order(rt: HostRuntime) -> Result<(), Fail> {
+fn leaves_come_to_what_they_name(rt: HostRuntime) -> Result<(), Fail> {
     let alloc = rt.alloc();
-    let program = first(alloc)?;
-    assert_eq!(rt; program.nodes.len(), 2);
-    let inputs = vec![in alloc; Value::Num(3)]?;
-    let states = fresh_states(alloc, &program, inputs.as_slice())?;
-    let pair = Value::Pair(
-        Boxed::new(alloc, Value::Num(3))?,
-        Boxed::new(alloc, Value::Num(7))?,
+    expect(&rt, alloc, words(alloc, "w")?, "\"w\"", &[], 1)?;
+    expect(&rt, alloc, failing(alloc, "no")?, "no", &[], 1)?;
+    expect(
+        &rt,
+        alloc,
+        Term::Input(text(alloc, "xs")?),
+        "[\"a\", \"b\"]",
+        &[],
+        1,
+    )?;
+    expect(&rt, alloc, Term::Node(text(alloc, "first")?), "7", &[], 1)
+}
+
+#[test]
+fn a_failure_comes_before_an_active_state(rt: HostRuntime) -> Result<(), Fail> {
+    let alloc = rt.alloc();
+    let both = pair(alloc, words(alloc, "w")?, Term::Return(Value::Num(7)))?;
+    expect(&rt, alloc, both, "(\"w\", 7)", &[], 3)?;
+    let one = build(alloc, "make", words(alloc, "a")?)?;
+    let mixed = pair(alloc, one, failing(alloc, "no")?)?;
+    expect(&rt, alloc, mixed, "no", &["a"], 4)
+}
+
+#[test]
+fn a_body_sees_each_item(rt: HostRuntime) -> Result<(), Fail> {
+    let alloc = rt.alloc();
+    let body = build(alloc, "make", Term::Var(text(alloc, "x")?))?;
+    let term = each_letter(alloc, body)?;
+    expect(&rt, alloc, term, "running", &["a", "b"], 6)
+}
+
+#[test]
+fn a_list_term_without_values_is_unit(rt: HostRuntime) -> Result<(), Fail> {
+    let alloc = rt.alloc();
+    let list = Boxed::new(alloc, Term::Input(text(alloc, "xs")?))?;
+    let body = Boxed::new(alloc, Term::Return(Value::Unit))?;
+    let name = text(alloc, "x")?;
+    expect(
+        &rt,
+        alloc,
+        Term::ListIter { name, list, body },
+        "()",
+        &[],
+        4,
+    )
+}
+
+#[test]
+fn a_bound_value_is_looked_up(rt: HostRuntime) -> Result<(), Fail> {
+    let alloc = rt.alloc();
+    let body = build(alloc, "make", Term::Var(text(alloc, "x")?))?;
+    let body = Boxed::new(alloc, body)?;
+    let left = Boxed::new(alloc, words(alloc, "b")?)?;
+    let name = text(alloc, "x")?;
+    expect(
+        &rt,
+        alloc,
+        Term::Bind { name, left, body },
+        "ready",
+        &["b"],
+        4,
+    )
+}
+
+#[test]
+fn an_output_is_wanted_by_its_key(rt: HostRuntime) -> Result<(), Fail> {
+    let alloc = rt.alloc();
+    let key = Boxed::new(alloc, words(alloc, "k")?)?;
+    let value = Boxed::new(alloc, words(alloc, "v")?)?;
+    let op = text(alloc, "put")?;
+    expect(
+        &rt,
+        alloc,
+        Term::Output { op, key, value },
+        "ready",
+        &["k"],
+        3,
+    )
+}
+
+/// How many lines a text of so many lines has, as a term.
+fn lines_counted(alloc: Global, count: usize) -> Result<Term, Fail> {
+    let mut bytes = Vec::new(alloc);
+    for _ in 0..count {
+        bytes.push(b'a')?;
+        bytes.push(b'\n')?;
+    }
+    let lines = Term::Return(Value::Words(Text::as_text(alloc, bytes.as_slice())?));
+    Ok(map(alloc, Fun::Count, map(alloc, Fun::Lines, lines)?)?)
+}
+
+#[test]
+fn a_function_that_fails_is_the_end_of_its_term(rt: HostRuntime) -> Result<(), Fail> {
+    let alloc = rt.alloc();
+    expect(&rt, alloc, lines_counted(alloc, 256)?, "256", &[], 3)?;
+    expect(
+        &rt,
+        alloc,
+        lines_counted(alloc, 257)?,
+        "list too long",
+        &[],
+        3,
+    )
+}
+
+/// A list of nine texts of 65,536 bytes, which weighs 589,834.
+fn large_list(alloc: Global) -> Result<Value, Fail> {
+    let mut items = ListOf::new(alloc);
+    for _ in 0..9 {
+        let bytes = vec![in alloc; b'x'; 65_536]?;
+        items.push(Value::Words(Text::as_text(alloc, bytes.as_slice())?))?;
+    }
+    Ok(Value::List(items))
+}
+
+#[test]
+fn a_list_that_weighs_too_much_fails(rt: HostRuntime) -> Result<(), Fail> {
+    let alloc = rt.alloc();
+    let term = each_letter(alloc, Term::Return(large_list(alloc)?))?;
+    expect(&rt, alloc, term, "value too large", &[], 4)
+}
+
+/// All states of a pipeline over the letters, where the build `make` of `a` is running.
+fn all_states<L: Ledger>(alloc: Global, program: &Program, blank: Blank) -> Result<Fresh, Fail>
+    requires name { blank.name ≡ L.name }
+    requires parts { blank.parts ≡ L.parts }
+    requires some { 0 < blank.parts }
+{
+    let entries = running(alloc)?;
+    let values = one(alloc, letters(alloc)?)?;
+    let mut steps = Steps::<L>::new(blank);
+    if program.nodes.len() > 3 || program.ops.len() > 3 {
+        return Err("no such program")?;
+    }
+    let values = values.as_slice();
+    Ok(fresh_states(alloc, program, values, &entries, &mut steps)?)
+}
+
+#[test]
+fn a_copied_pipeline_comes_to_the_same_states(rt: HostRuntime) -> Result<(), Fail> {
+    let alloc = rt.alloc();
+    let program = pipeline(alloc, nodes(alloc, Term::Node(text(alloc, "first")?))?)?;
+    let copy = program.copy(alloc)?;
+    let fresh = all_states::<Brand>(alloc, &copy, Blank::new(1))?;
+    assert_eq!(rt; (fresh.states.len(), fresh.wants.len()), (2, 0));
+    for state in fresh.states.as_slice() {
+        assert_eq!(rt; told(alloc, state)?.as_str(), "7");
+    }
+    Ok(())
+}
+
+#[test]
+fn a_gate_wants_what_both_sides_want(rt: HostRuntime) -> Result<(), Fail> {
+    let alloc = rt.alloc();
+    let second = build(alloc, "make", words(alloc, "b")?)?;
+    let held = Term::Gate(
+        Boxed::new(alloc, failing(alloc, "no")?)?,
+        Boxed::new(alloc, second)?,
     );
-    assert_eq!(rt; states.len(), 2);
-    assert!(rt; states.as_slice()[0].is(&State::Fine(Value::Num(3))));
-    assert!(rt; states.as_slice()[1].is(&State::Fine(pair)));
-    Ok(())
+    expect(&rt, alloc, held, "no", &["b"], 4)
 }
 
 #[test]
-fn a_failed_state_is_kept_with_its_origin(rt: HostRuntime) -> Result<(), Fail> {
+fn an_active_state_is_an_outcome_where_it_is_told(rt: HostRuntime) -> Result<(), Fail> {
     let alloc = rt.alloc();
-    let program = first(alloc)?;
-    assert_eq!(rt; program.nodes.len(), 2);
-    let failed = State::Failed {
-        origin: 0,
-        message: Text::of(alloc, "no")?,
-    };
-    let earlier = [failed];
-    let state = eval_node(alloc, &program, 1, &[], &earlier)?;
-    assert!(rt; state.is(&earlier[0]));
-    Ok(())
+    let one = build(alloc, "make", words(alloc, "a")?)?;
+    expect(
+        &rt,
+        alloc,
+        Term::State(Boxed::new(alloc, one)?),
+        "active",
+        &["a"],
+        3,
+    )?;
+    let two = build(alloc, "make", words(alloc, "b")?)?;
+    expect(
+        &rt,
+        alloc,
+        Term::Catch(Boxed::new(alloc, two)?),
+        "ready",
+        &["b"],
+        3,
+    )?;
+    let caught = Term::Catch(Boxed::new(alloc, failing(alloc, "no")?)?);
+    expect(&rt, alloc, caught, "failed(\"no\")", &[], 2)
+}
+
+#[test]
+fn an_order_too_long_is_not_wanted(rt: HostRuntime) -> Result<(), Fail> {
+    let alloc = rt.alloc();
+    let mut bytes = Vec::new(alloc);
+    for _ in 0..50_001 {
+        bytes.push(b'x')?;
+    }
+    let key = Text::as_text(alloc, bytes.as_slice())?;
+    let long = build(alloc, "wide", Term::Return(Value::Words(key)))?;
+    expect(&rt, alloc, long, "order too long", &[], 2)
 }

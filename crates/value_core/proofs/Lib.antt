@@ -5,3 +5,6 @@ pub mod Nuls
 pub mod Texts
 pub mod Bodies
 pub mod Lexes
+pub mod Cuts
+pub mod Items
+pub mod KindLaws

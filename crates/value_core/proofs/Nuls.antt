@@ -1,5 +1,5 @@
 -- What has no zero byte: lists put together, parts of one, and printed forms.
-use Rattle.std.proofs.Common.{◌≡◌, ℕ, zero, suc, ◌+◌, ◌<◌, ◌^◌, ◌/◌, ◌%◌, Bool, true, false, cond, List, [], ◌∷◌, ◌++◌, take, refl, arith}
+use Rattle.std.proofs.Common.{◌≡◌, ℕ, zero, suc, ◌+◌, ◌<◌, ◌^◌, ◌/◌, ◌%◌, Bool, true, false, cond, List, [], ◌∷◌, ◌++◌, take, drop, refl, arith}
 use Rattle.std.specs.Prelude.{◌&&◌, ◌||◌, ◌==◌, not, nat_lt, if◌then◌else◌, codes}
 use Rattle.std.specs.Fmt.{decimal, digit_glyph}
 use Rattle.std.proofs.lemmas.Fmt.{decimal_by_steps}
@@ -19,6 +19,11 @@ pub no_nul_take : (n : ℕ) (bs : List ℕ) → HasNoNul bs → HasNoNul (take n
 no_nul_take zero bs e = refl
 no_nul_take (suc n) [] e = refl
 no_nul_take (suc n) (b ∷ bs) e = let p = both_parts (not (b == 0)) (no_nul bs) e in rw (p.0, no_nul_take n bs p.1) refl
+
+pub no_nul_drop : (n : ℕ) (bs : List ℕ) → HasNoNul bs → HasNoNul (drop n bs)
+no_nul_drop zero bs e = e
+no_nul_drop (suc n) [] e = refl
+no_nul_drop (suc n) (b ∷ bs) e = no_nul_drop n bs (both_parts (not (b == 0)) (no_nul bs) e).1
 
 -- what is written after a text without NUL
 pub no_nul_grown : (before added now : List ℕ) → now ≡ before ++ added → HasNoNul added → HasNoNul before → HasNoNul now

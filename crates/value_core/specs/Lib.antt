@@ -9,3 +9,8 @@ pub mod Pieces
 pub mod Tokens
 pub mod Lexing
 pub mod Same
+pub mod Parts
+pub mod Cuts
+pub mod Functions
+pub mod Literals
+pub mod FunctionKinds

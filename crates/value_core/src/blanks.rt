@@ -5,18 +5,12 @@ ghost use Rattle.value_core.specs.Tokens.{in_line, gap};
 
 use crate::bytes::{decoded, head, is_blank_byte, tail};
 
+/// How many bytes stand before a newline or the end.
 fn line_len(bytes: &[u8]) -> usize
     ensures value { result ≡ prefix_len in_line bytes.now }
     ensures within { result ≤ length bytes.now }
 {
-    let mut len = 0;
-    for b in bytes {
-        if *b == b'\n' {
-            return len;
-        }
-        len += 1;
-    }
-    len
+    bytes.iter().take_while(|b| **b != b'\n').count()
 }
 
 /// How many bytes a blank byte or a comment takes at the front, 0 where there is none.

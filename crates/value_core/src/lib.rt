@@ -1,22 +1,30 @@
 //! Values, states and tokens: what the crates above speak of.
 //!
 //! `value`, `text`, `list_of` and `state` have the types, `comparing`, `copying`, `kinds` and
-//! `weighing` what is asked of a value, `printing` the printed forms, `token`, `strings`, `blanks`
-//! and `lexing` the tokens of bytes, `steps` a counter for proofs about work.
+//! `weighing` what is asked of a value, `printing` the printed forms, `token`, `strings`,
+//! `numerals`, `blanks` and `lexing` the tokens of bytes, `literal` the values that bytes spell,
+//! `function`, `applying`, `parts` and `cutting` the functions, `steps` a counter for proofs about
+//! work.
 #![tactic(auto)]
 
 use std::alloc::AllocError;
 
+mod applying;
 mod blanks;
 mod bytes;
 mod comparing;
 mod copying;
+mod cutting;
 mod function;
+#[cfg(test)]
+mod function_tests;
 mod kinds;
 mod lexing;
 mod list_of;
+mod literal;
 mod numerals;
 mod order;
+mod parts;
 mod printing;
 mod state;
 mod steps;
@@ -29,10 +37,11 @@ mod value;
 mod weighing;
 
 pub use comparing::same_law;
-pub use function::{Applied, Fun};
+pub use function::{Applied, Fun, apply_fn, kind_law};
 pub use kinds::is_kind;
 pub use lexing::{Placed, Stop, Tokens, tokens_of};
 pub use list_of::ListOf;
+pub use literal::{LiteralFault, literal_in, read_literal};
 pub use printing::{text_of, write_text, write_value};
 pub use state::{Published, Stage, State, Triple};
 pub use steps::Steps;

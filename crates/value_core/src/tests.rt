@@ -19,15 +19,15 @@ fn words(alloc: Global, text: &str) -> Result<Value, AllocError>
     Ok(Value::Words(Text::of(alloc, text)?))
 }
 
-fn pair(alloc: Global, a: Value, b: Value) -> Result<Value, AllocError> {
+pub(crate) fn pair(alloc: Global, a: Value, b: Value) -> Result<Value, AllocError> {
     Ok(Value::Pair(Boxed::new(alloc, a)?, Boxed::new(alloc, b)?))
 }
 
-fn fine(alloc: Global, v: Value) -> Result<Value, AllocError> {
+pub(crate) fn fine(alloc: Global, v: Value) -> Result<Value, AllocError> {
     Ok(Value::Out(Outcome::Fine(Boxed::new(alloc, v)?)))
 }
 
-fn bad(alloc: Global, message: &str) -> Result<Value, AllocError>
+pub(crate) fn bad(alloc: Global, message: &str) -> Result<Value, AllocError>
     requires { HasNoNul message.now }
 {
     Ok(Value::Out(Outcome::Bad(Text::of(alloc, message)?)))

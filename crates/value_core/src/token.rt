@@ -100,14 +100,7 @@ fn word_len(bytes: &[u8]) -> usize
     ensures value { result ≡ prefix_len is_word_byte bytes.now }
     ensures within { result ≤ length bytes.now }
 {
-    let mut len = 0;
-    for b in bytes {
-        if !is_in_word(*b) {
-            return len;
-        }
-        len += 1;
-    }
-    len
+    bytes.iter().take_while(|b| is_in_word(**b)).count()
 }
 
 #[tactic(auto, using(crate::proofs::Scans::word_no_nul, crate::proofs::Scans::word_utf8))]

@@ -1,5 +1,5 @@
 use Rattle.std.proofs.Common.{◌≡◌, drop, map}
-use Rattle.term_core.specs.Names.{place_named}
+use Rattle.op_keys.specs.Names.{place_named}
 use Rattle.term_core.proofs.names.place_of.Given as goal
 
 abbrev pub invariant-loop-i : goal.invariant-loop-i

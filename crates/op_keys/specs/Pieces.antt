@@ -1,0 +1,11 @@
+-- What a template begins with.
+use Rattle.std.specs.Prelude.{ℕ, List}
+use Rattle.std.specs.Char.{encode_utf8}
+use Rattle.op_keys.specs.declared.filling.Piece.{Piece}
+use Rattle.op_keys.specs.declared.filling.Piece.TheVariants as piece
+
+-- the bytes that a piece puts in
+abbrev pub put : List ℕ → List ℕ → Piece → List ℕ
+put key value piece.Key = key
+put key value piece.Value = value
+put key value (piece.Char c) = encode_utf8 c

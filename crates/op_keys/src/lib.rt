@@ -1,0 +1,16 @@
+//! Declarations of operations, and the orders that they make.
+//!
+//! `declarations` has what a pipeline file declares beside its inputs and nodes, `level` which
+//! levels may start, `order` the words of a child process, filled from an operation's templates.
+#![tactic(auto)]
+
+mod declarations;
+mod filling;
+mod level;
+mod order;
+#[cfg(test)]
+mod tests;
+
+pub use declarations::{ClientDecl, Expiry, OpDecl, PoolDecl, WorkerDecl};
+pub use level::{Level, permitted};
+pub use order::{Exit, ORDER_WORD_LIMIT, Order, OrderFault, Word, hint_of, order_fits, words_of};
