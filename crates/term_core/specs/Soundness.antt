@@ -1,16 +1,17 @@
 -- Which programs are sound: each name is declared, each term has a kind, and lists nest twice at most.
-use Rattle.std.specs.Prelude.{◌≡◌, ℕ, ◌+◌, ◌≤◌, suc, nat_lt, nat_le, not, Bool, true, false, ◌&&◌, if◌then◌else◌, List, [], ◌∷◌, ◌++◌, map, sum, Option, Some, None, is_some, slice_get, option_map}
+use Rattle.std.specs.Prelude.{◌≡◌, ℕ, ◌+◌, ◌≤◌, nat_lt, nat_le, not, Bool, true, false, ◌&&◌, ◌==◌, if◌then◌else◌, List, [], ◌∷◌, ◌++◌, map, sum, Option, Some, None, is_some, slice_get, option_map}
 use Rattle.std.specs.List.{list_all, list_any}
 use Rattle.std.specs.Option.{option_and_then}
 use Rattle.std.specs.Str.{bytes_eq}
 use Rattle.value_core.specs.Codes.{kind_code}
+use Rattle.value_core.specs.FunctionKinds.{kind_given}
 use Rattle.value_core.specs.Same.{same}
-use Rattle.value_core.specs.declared.function.Fun.{Fun}
-use Rattle.value_core.specs.declared.function.Fun.TheVariants as fun
 use Rattle.value_core.specs.declared.value.Kind.{Kind, Kind-F, out-Kind, fold-Kind}
 use Rattle.value_core.specs.declared.value.Kind.TheVariants as kind
 use Rattle.value_core.specs.declared.value.Outcome.{Outcome}
 use Rattle.value_core.specs.declared.value.Value.{Value, Value-F, out-Value}
+use Rattle.op_keys.specs.declared.declarations.ClientDecl.{ClientDecl}
+use Rattle.op_keys.specs.declared.declarations.OpDecl.{OpDecl}
 use Rattle.term_core.specs.Limits.{IsWithinLimits, parts_of}
 use Rattle.op_keys.specs.Names.{place_named}
 use Rattle.term_core.specs.declared.program.FailKind.{FailKind}
@@ -36,29 +37,19 @@ kind_parts = fold-Kind ℕ kind_parts_step
 abbrev pub small : Kind → Option Kind
 small k = if nat_lt 64 (kind_parts k) then None else Some k
 
--- a kind, where another is the one that is wanted
-abbrev pub where_kind : Kind → Kind → Kind → Option Kind
-where_kind wanted found k = if same kind_code found wanted then Some k else None
+-- a kind, where it is the wanted one
+abbrev pub wanted_kind : Kind → Kind → Option Kind
+wanted_kind wanted k = if same kind_code k wanted then Some k else None
 
--- the kind of texts' lists
-abbrev pub text_list : Kind
-text_list = kind.List kind.Text
-
--- the kind of two parts
-abbrev pub pair_of : Kind → Kind → Kind
-pair_of a b = kind.Pair a b
-
--- the kind of a literal's layer; a list is a list of texts
-abbrev pub literal_layer_kind : Value-F Outcome Value → Option Kind
-literal_layer_kind (Value-F.Words t) = Some kind.Text
-literal_layer_kind (Value-F.Num n) = Some kind.Num
-literal_layer_kind Value-F.Unit = Some kind.Unit
-literal_layer_kind (Value-F.List xs) = Some text_list
-literal_layer_kind (Value-F.Pair a b) = None
-literal_layer_kind (Value-F.Out o) = None
+-- the kind of a literal's layer; a list is a list of texts, and what is no literal counts as unit
+abbrev pub literal_layer_kind : Value-F Outcome Value → Kind
+literal_layer_kind (Value-F.Words t) = kind.Text
+literal_layer_kind (Value-F.Num n) = kind.Num
+literal_layer_kind (Value-F.List xs) = kind.List kind.Text
+literal_layer_kind v = kind.Unit
 
 -- the kind of a literal
-abbrev pub literal_kind : Value → Option Kind
+abbrev pub literal_kind : Value → Kind
 literal_kind v = literal_layer_kind (out-Value v)
 
 -- the kind that a failing term is of
@@ -66,60 +57,29 @@ abbrev pub fail_kind : FailKind → Kind
 fail_kind fails.Text = kind.Text
 fail_kind fails.Num = kind.Num
 fail_kind fails.Unit = kind.Unit
-fail_kind fails.List = text_list
+fail_kind fails.List = kind.List kind.Text
+
+-- the kind of the items of a layer of a kind, where it is a list's
+abbrev pub item_layer_kind : Kind-F Kind → Option Kind
+item_layer_kind (Kind-F.List a) = Some a
+item_layer_kind k = None
 
 -- the kind of a list's items
-abbrev pub item_kind : Kind-F Kind → Option Kind
-item_kind (Kind-F.List a) = Some a
-item_kind k = None
+abbrev pub item_kind : Kind → Option Kind
+item_kind k = item_layer_kind (out-Kind k)
 
--- the kind of a pair's first part
-abbrev pub first_kind : Kind-F Kind → Option Kind
-first_kind (Kind-F.Pair a b) = Some a
-first_kind k = None
-
--- the kind of a pair's second part
-abbrev pub second_kind : Kind-F Kind → Option Kind
-second_kind (Kind-F.Pair a b) = Some b
-second_kind k = None
-
--- the kind of an outcome's value
-abbrev pub outcome_kind : Kind-F Kind → Option Kind
-outcome_kind (Kind-F.Out a) = Some a
-outcome_kind k = None
-
--- the kind that a function gives for a kind
-abbrev pub fun_kind : Fun → Kind → Option Kind
-fun_kind fun.Trim k = where_kind kind.Text k kind.Text
-fun_kind fun.Lines k = where_kind kind.Text k text_list
-fun_kind fun.Words k = where_kind kind.Text k text_list
-fun_kind fun.Join k = where_kind text_list k kind.Text
-fun_kind fun.Concat k = where_kind (pair_of kind.Text kind.Text) k kind.Text
-fun_kind fun.Length k = where_kind kind.Text k kind.Num
-fun_kind fun.Count k = option_map (λ a. kind.Num) (item_kind (out-Kind k))
-fun_kind fun.Number k = where_kind kind.Text k kind.Num
-fun_kind fun.Show k = where_kind kind.Num k kind.Text
-fun_kind fun.Add k = where_kind (pair_of kind.Num kind.Num) k kind.Num
-fun_kind fun.Equal k = where_kind (pair_of kind.Text kind.Text) k kind.Unit
-fun_kind fun.AtMost k = where_kind (pair_of kind.Num kind.Num) k kind.Unit
-fun_kind fun.First k = first_kind (out-Kind k)
-fun_kind fun.Second k = second_kind (out-Kind k)
-fun_kind fun.Describe k = option_map (λ a. kind.Text) (outcome_kind (out-Kind k))
-fun_kind fun.Must k = outcome_kind (out-Kind k)
-
--- a kind under a name
-pub record KindBinding : Type 0 where
-  pub name : List ℕ
-  pub kind : Kind
+-- a name, and the kind of what is bound to it
+abbrev pub NamedKind : Type 0
+NamedKind = List ℕ × Kind
 
 -- the kind bound last to this name, among those bound in order, or the one that was found before
-abbrev pub innermost_kind : Option Kind → List KindBinding → List ℕ → Option Kind
+abbrev pub innermost_kind : Option Kind → List NamedKind → List ℕ → Option Kind
 innermost_kind found [] n = found
-innermost_kind found (b ∷ bs) n = innermost_kind (if bytes_eq b.name n then Some b.kind else found) bs n
+innermost_kind found (b ∷ bs) n = innermost_kind (if bytes_eq b.0 n then Some b.1 else found) bs n
 
 -- the kind of the input of this name
 abbrev pub input_kind : Program → List ℕ → Option Kind
-input_kind p n = option_and_then (λ d. literal_kind d.value) (slice_get p.inputs (place_named 0 (map (λ d. d.name) p.inputs) n))
+input_kind p n = option_map (λ d. literal_kind d.value) (slice_get p.inputs (place_named 0 (map (λ d. d.name) p.inputs) n))
 
 -- the kind of the node of this name, where it is among the earlier ones
 abbrev pub node_kind : Program → List Kind → List ℕ → Option Kind
@@ -131,30 +91,44 @@ is_op p n output = list_any (λ d. bytes_eq d.name n && (if output then d.output
 
 -- the kind of a term under kinds of bound values, where it has one
 abbrev pub Typing : Type 0
-Typing = List KindBinding → Option Kind
+Typing = List NamedKind → Option Kind
 
 -- the kinds with one more
-abbrev pub bind_kind : List KindBinding → List ℕ → Kind → List KindBinding
-bind_kind bound n k = bound ++ record { name = n; kind = k } ∷ []
+abbrev pub bind_kind : List NamedKind → List ℕ → Kind → List NamedKind
+bind_kind bound n k = bound ++ (n, k) ∷ []
+
+-- unit, where each of the kinds is unit
+abbrev pub unit_of_units : List (Option Kind) → Option Kind
+unit_of_units [] = Some kind.Unit
+unit_of_units (o ∷ os) = option_and_then (λ k. unit_of_units os) (option_and_then (wanted_kind kind.Unit) o)
+
+-- a build's kind, for its key's
+abbrev pub build_kind : Option Kind → Option Kind
+build_kind key = option_and_then (λ k. Some kind.Text) (option_and_then (wanted_kind kind.Text) key)
+
+-- an output's kind, for its key's and its value's
+abbrev pub output_kind : Option Kind → Option Kind → Option Kind
+output_kind key value =
+    option_and_then (λ k. option_and_then (λ v. Some kind.Unit) (option_and_then (wanted_kind kind.Text) value)) (option_and_then (wanted_kind kind.Text) key)
 
 -- the kind of one layer of a term, where each part is its typing
 abbrev pub layer_kind : Program → List Kind → Term-F Typing → Typing
-layer_kind p earlier (Term-F.Return v) bound = literal_kind v
+layer_kind p earlier (Term-F.Return v) bound = Some (literal_kind v)
 layer_kind p earlier (Term-F.Fail k m) bound = Some (fail_kind k)
 layer_kind p earlier (Term-F.Input n) bound = input_kind p n
 layer_kind p earlier (Term-F.Node n) bound = node_kind p earlier n
 layer_kind p earlier (Term-F.Var n) bound = innermost_kind None bound n
-layer_kind p earlier (Term-F.Map f t) bound = option_and_then (fun_kind f) (t bound)
-layer_kind p earlier (Term-F.Pair a b) bound = option_and_then (λ k. option_map (pair_of k) (b bound)) (a bound)
+layer_kind p earlier (Term-F.Map f t) bound = option_and_then (kind_given f) (t bound)
+layer_kind p earlier (Term-F.Pair a b) bound = option_and_then (λ k. option_and_then (λ l. Some (kind.Pair k l)) (b bound)) (a bound)
 layer_kind p earlier (Term-F.Bind n t u) bound = option_and_then (λ k. u (bind_kind bound n k)) (t bound)
-layer_kind p earlier (Term-F.ListMap n t u) bound = option_and_then (λ k. option_and_then (λ a. option_map kind.List (u (bind_kind bound n a))) (item_kind (out-Kind k))) (t bound)
-layer_kind p earlier (Term-F.ListIter n t u) bound = option_and_then (λ k. option_and_then (λ a. option_and_then (λ b. where_kind kind.Unit b kind.Unit) (u (bind_kind bound n a))) (item_kind (out-Kind k))) (t bound)
-layer_kind p earlier (Term-F.Catch t) bound = option_map kind.Out (t bound)
-layer_kind p earlier (Term-F.State t) bound = option_map kind.Out (t bound)
-layer_kind p earlier (Term-F.Gate on t) bound = option_and_then (λ k. option_and_then (where_kind kind.Unit k) (t bound)) (on bound)
-layer_kind p earlier (Term-F.All ts) bound = if list_all (λ t. is_some (option_and_then (λ k. where_kind kind.Unit k kind.Unit) (t bound))) ts then Some kind.Unit else None
-layer_kind p earlier (Term-F.Build op k) bound = if is_op p op false then option_and_then (λ a. where_kind kind.Text a kind.Text) (k bound) else None
-layer_kind p earlier (Term-F.Output op k v) bound = if is_op p op true then option_and_then (λ a. option_and_then (λ b. where_kind (pair_of kind.Text kind.Text) (pair_of a b) kind.Unit) (v bound)) (k bound) else None
+layer_kind p earlier (Term-F.ListMap n t u) bound = option_and_then (λ a. option_and_then (λ b. Some (kind.List b)) (u (bind_kind bound n a))) (option_and_then item_kind (t bound))
+layer_kind p earlier (Term-F.ListIter n t u) bound = option_and_then (λ a. option_and_then (wanted_kind kind.Unit) (u (bind_kind bound n a))) (option_and_then item_kind (t bound))
+layer_kind p earlier (Term-F.Catch t) bound = option_and_then (λ k. Some (kind.Out k)) (t bound)
+layer_kind p earlier (Term-F.State t) bound = option_and_then (λ k. Some (kind.Out k)) (t bound)
+layer_kind p earlier (Term-F.Gate on t) bound = option_and_then (λ k. t bound) (option_and_then (wanted_kind kind.Unit) (on bound))
+layer_kind p earlier (Term-F.All ts) bound = unit_of_units (map (λ t. t bound) ts)
+layer_kind p earlier (Term-F.Build op k) bound = if is_op p op false then build_kind (k bound) else None
+layer_kind p earlier (Term-F.Output op k v) bound = if is_op p op true then output_kind (k bound) (v bound) else None
 
 -- the kind of a term over the kinds of the earlier nodes, each part's kind having at most 64 parts
 unfoldable pub term_kind : Program → List Kind → Term → Typing
@@ -177,8 +151,8 @@ pub record Nesting : Type 0 where
 -- a list term in at most one list body: its list stands where it stands, its body in one body more
 abbrev pub list_nesting : (ℕ → Nesting) → (ℕ → Nesting) → ℕ → Nesting
 list_nesting list body n = record {
-  fits = nat_lt n 2 && ((list n).fits && (body (suc n)).fits);
-  deep = (list n).deep + (body (suc n)).deep;
+  fits = nat_lt n 2 && ((list n).fits && (body (n + 1)).fits);
+  deep = (list n).deep + (body (n + 1)).deep;
 }
 
 -- any other term: its parts stand where it stands

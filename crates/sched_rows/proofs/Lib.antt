@@ -1,0 +1,14 @@
+pub mod Members
+pub mod Moments
+pub mod InstantLaws
+pub mod CivilDays
+pub mod ValidityLaws
+pub mod SortedEntries
+pub mod KeyOrders
+pub mod KeptLaws
+pub mod Soundness
+pub mod Lookups
+pub mod IndexLaws
+pub mod DueLaws
+pub mod Mapped
+pub mod EndSets

@@ -1,0 +1,6 @@
+use Rattle.std.proofs.Common.{◌≡◌, ◌++◌, map, take, drop}
+use Rattle.sched_rows.specs.Ends.{moved_up}
+use Rattle.sched_rows.proofs.expiry_index.move_up.Given as goal
+
+abbrev pub invariant-loop-end : goal.invariant-loop-end
+invariant-loop-end l = l.ends ≡ map (moved_up l.from) (take l.end-index l.initial.ends) ++ drop l.end-index l.initial.ends
