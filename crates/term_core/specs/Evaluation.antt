@@ -84,9 +84,13 @@ wanted given meant t = record { state = entry_state given.node meant (entry_of g
 unfoldable pub looked_up : Given → (List ℕ → Value) → Triple → Run
 looked_up given meant t = if fits (slice_get given.program.ops t.op) t then wanted given meant t else stated (Failed given.node (codes "order too long"))
 
--- what a term comes to under the bound values, the innermost last
+-- the bound values, the innermost last
+abbrev pub Bound : Type 0
+Bound = List Binding
+
+-- what a term comes to under the bound values
 abbrev pub Meaning : Type 0
-Meaning = List Binding → Run
+Meaning = Bound → Run
 
 -- a function of the term's value
 unfoldable pub map_run : Given → Fun → Meaning → Meaning

@@ -1,5 +1,5 @@
 -- The limits of a program.
-use Rattle.std.specs.Prelude.{◌≡◌, ℕ, ◌+◌, ◌≤◌, ◌≤ℤ◌, ℤ, pos, negsuc, max, nat_le, Bool, true, false, ◌&&◌, List, [], ◌∷◌, length, map, sum, Option, Some, None}
+use Rattle.std.specs.Prelude.{◌≡◌, ℕ, ◌+◌, ◌^◌, ◌≤◌, ◌≤ℤ◌, ℤ, pos, negsuc, max, nat_le, nat_lt, Bool, true, false, ◌&&◌, List, [], ◌∷◌, length, map, sum, Option, Some, None}
 use Rattle.std.specs.List.{AllByRecursion, list_all}
 use Rattle.value_core.specs.Tokens.{is_letter, is_word_byte}
 use Rattle.value_core.specs.Values.{weight_of}
@@ -37,10 +37,10 @@ abbrev pub is_text_layer : Value-F Outcome Value → Bool
 is_text_layer (Value-F.Words t) = is_text t
 is_text_layer v = false
 
--- whether a layer of a value is a text, a number or a list of at most 256 texts
+-- whether a layer of a value is a text, a number of 64 bits or a list of at most 256 texts
 abbrev pub is_input_layer : Value-F Outcome Value → Bool
 is_input_layer (Value-F.Words t) = is_text t
-is_input_layer (Value-F.Num n) = true
+is_input_layer (Value-F.Num n) = nat_lt n (2 ^ 64)
 is_input_layer (Value-F.List xs) = nat_le (length xs) 256 && list_all (λ x. is_text_layer (out-Value x)) xs
 is_input_layer v = false
 

@@ -1,5 +1,5 @@
 -- Which programs are sound: each name is declared, each term has a kind, and lists nest twice at most.
-use Rattle.std.specs.Prelude.{◌≡◌, ℕ, ◌+◌, ◌≤◌, nat_lt, nat_le, not, Bool, true, false, ◌&&◌, ◌==◌, if◌then◌else◌, List, [], ◌∷◌, ◌++◌, map, sum, Option, Some, None, is_some, slice_get, option_map}
+use Rattle.std.specs.Prelude.{◌≡◌, ℕ, ◌+◌, ◌≤◌, nat_lt, nat_le, not, Bool, true, false, ◌&&◌, if◌then◌else◌, List, [], ◌∷◌, ◌++◌, map, sum, Option, Some, None, is_some, slice_get, option_map}
 use Rattle.std.specs.List.{list_all, list_any}
 use Rattle.std.specs.Option.{option_and_then}
 use Rattle.std.specs.Str.{bytes_eq}
@@ -10,8 +10,6 @@ use Rattle.value_core.specs.declared.value.Kind.{Kind, Kind-F, out-Kind, fold-Ki
 use Rattle.value_core.specs.declared.value.Kind.TheVariants as kind
 use Rattle.value_core.specs.declared.value.Outcome.{Outcome}
 use Rattle.value_core.specs.declared.value.Value.{Value, Value-F, out-Value}
-use Rattle.op_keys.specs.declared.declarations.ClientDecl.{ClientDecl}
-use Rattle.op_keys.specs.declared.declarations.OpDecl.{OpDecl}
 use Rattle.term_core.specs.Limits.{IsWithinLimits, parts_of}
 use Rattle.op_keys.specs.Names.{place_named}
 use Rattle.term_core.specs.declared.program.FailKind.{FailKind}

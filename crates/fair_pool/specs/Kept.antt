@@ -1,0 +1,128 @@
+-- What the vectors behind the pools keep.
+use Rattle.std.specs.Prelude.{◌≡◌, ℕ, zero, suc, ◌+◌, ◌<◌, ◌≤◌, Bool, ◌&&◌, ◌||◌, ◌==◌, nat_lt, if◌then◌else◌, List, [], ◌∷◌, length, map, slice_index, slice_index_or, T, false, Option, Some, None}
+use Rattle.std.specs.List.{AllByRecursion}
+use Rattle.std.specs.List.Sorted.{IsPartitionPoint}
+use Rattle.std.specs.declared.cmp.Ordering.TheVariants.{Less, Equal, Greater}
+use Rattle.std.specs.FinMap.{from_sorted}
+use Rattle.std.specs.FinMap.Entries.{is_sorted}
+use Rattle.fair_pool.specs.Fair.{allows, comes_before, job_before, same_bool, ticket_of}
+use Rattle.fair_pool.specs.Hints.{HintKey, HintWorkers, hint_key, hint_entry, hint_key_cmp}
+use Rattle.fair_pool.specs.Layouts.{Layout}
+use Rattle.fair_pool.specs.Order.{in_order, Rises}
+use Rattle.fair_pool.specs.Pools.{PoolsState}
+use Rattle.fair_pool.specs.Sound.{IsLayoutSound}
+use Rattle.fair_pool.specs.declared.ticket.HintWorker.{HintWorker}
+use Rattle.fair_pool.specs.declared.ticket.Place.{Place}
+use Rattle.fair_pool.specs.declared.ticket.Ticket.{Ticket}
+
+-- ---- queues
+
+-- what of a ticket tells its place in a queue
+abbrev pub place_of : Ticket → Place
+place_of k = record { urgent = k.urgent; start = k.start; job = k.job }
+
+-- whether a place comes before another, as tickets do
+abbrev pub place_before : Place → Place → Bool
+place_before a b = if same_bool a.urgent b.urgent then nat_lt a.start b.start || (a.start == b.start && nat_lt a.job b.job) else a.urgent
+
+-- a queue's places, and how many there is room for
+pub record QueueState : Type 0 where
+  pub places : List Place
+  pub room : ℕ
+
+-- the queues, where one has its places changed
+abbrev pub with_queue : (List Place → List Place) → ℕ → List QueueState → List QueueState
+with_queue change n [] = []
+with_queue change zero (q ∷ qs) = record q { places = change q.places } ∷ qs
+with_queue change (suc n) (q ∷ qs) = q ∷ with_queue change n qs
+
+-- the ready tickets of a pool
+abbrev pub standing : ℕ → List Ticket → List Bool → List Ticket
+standing pool (k ∷ ks) (r ∷ rs) = if r && k.pool == pool then k ∷ standing pool ks rs else standing pool ks rs
+standing pool _ _ = []
+
+-- the ready tickets of a pool, the next one first
+abbrev pub queue_of : ℕ → List Ticket → List Bool → List Ticket
+queue_of pool ks rs = in_order comes_before (standing pool ks rs)
+
+-- a pool's queue has the places of its ready tickets, and room for those of all tickets and more
+pub record IsQueueOf (ks : List Ticket) (rs : List Bool) (spare pool : ℕ) (q : QueueState) : Type 0 where
+  pub places : q.places ≡ map place_of (queue_of pool ks rs)
+  pub room : length ks + spare ≤ q.room
+
+-- each pool has its queue
+abbrev pub AreQueuesOf : List Ticket → List Bool → ℕ → List QueueState → Type 0
+AreQueuesOf ks rs spare qs = (pool : ℕ) (d : QueueState) → pool < length qs → IsQueueOf ks rs spare pool (slice_index_or qs pool d)
+
+-- the tickets with their flags, how many pools there are, and for how many more tickets there is room
+pub record WaitingState : Type 0 where
+  pub tickets : List Ticket
+  pub ready : List Bool
+  pub pools : ℕ
+  pub spare : ℕ
+
+-- the tickets are in order of jobs, of pools that there are, and stand in the queues; the vectors have room for more
+pub record IsWaitingKept (ks : List Ticket) (rs : List Bool) (qs : List QueueState) (spare ks_fit rs_fit : ℕ) : Type 0 where
+  pub rising : Rises job_before ks
+  pub flags : length rs ≡ length ks
+  pub pools : AllByRecursion (λ (k : Ticket). k.pool < length qs) ks
+  pub queues : AreQueuesOf ks rs spare qs
+  pub ticket_room : length ks + spare ≤ ks_fit
+  pub flag_room : length ks + spare ≤ rs_fit
+
+-- ---- hints
+
+-- the table of these, where they are in order
+abbrev pub hint_table : List HintWorker → HintWorkers
+hint_table hs = from_sorted (map hint_entry hs)
+
+-- the table, and for how many more hints there is room
+pub record HintsState : Type 0 where
+  pub workers : HintWorkers
+  pub room : ℕ
+
+-- the hints are in order
+abbrev pub AreHintsKept : List HintWorker → Type 0
+AreHintsKept hs = T (is_sorted hint_key_cmp (map hint_entry hs))
+
+-- where a hint stands among these
+abbrev pub IsKnownAt : HintKey → List HintWorker → ℕ → Type 0
+IsKnownAt k hs at = (at < length hs) × ((d : HintWorker) → hint_key_cmp (hint_key (slice_index_or hs at d)) k ≡ Equal)
+
+-- where a hint that isn't among these has its place
+abbrev pub IsMissingAt : HintKey → List HintWorker → ℕ → Type 0
+IsMissingAt k hs at = (at ≤ length hs) × IsPartitionPoint (λ h. hint_key_cmp (hint_key h) k ≡ Less) (λ h. hint_key_cmp (hint_key h) k ≡ Greater) hs at
+
+-- ---- all together
+
+-- the declarations are sound, there is a number for each client and each worker, each rate is positive, each pool has its queue, and each ticket's hint has room
+pub record ArePoolsKept (l : Layout) (ts : WaitingState) (ns rs : List ℕ) (ps : List Bool) (ws : List ℕ) (room : ℕ) : Type 0 where
+  pub layout : IsLayoutSound l
+  pub next : length ns ≡ length l.clients
+  pub rates : length rs ≡ length l.clients
+  pub paused : length ps ≡ length l.workers
+  pub loads : length ws ≡ length l.workers
+  pub positive : AllByRecursion (λ r. 0 < r) rs
+  pub pools : ts.pools ≡ length l.pools
+  pub hints : length ts.tickets + ts.spare ≤ room
+
+-- ---- what a search of a queue comes to
+
+-- whether a worker may take the ticket that is found of a job
+abbrev pub allows_found : PoolsState → ℕ → ℕ → Option Ticket → Bool
+allows_found p now w (Some k) = allows p.layout p.fair (slice_index p.loads) now w k
+allows_found p now w None = false
+
+-- whether a worker may take a job that stands in its pool's queue
+abbrev pub allows_job : PoolsState → ℕ → ℕ → ℕ → Bool
+allows_job p now w job = allows_found p now w (ticket_of job p.fair.tickets)
+
+-- the first job of some places that passes a test
+abbrev pub first_job : (ℕ → Bool) → List Place → Option ℕ
+first_job test [] = None
+first_job test (p ∷ ps) = if test p.job then Some p.job else first_job test ps
+
+-- how many places are looked at for it
+abbrev pub looked_for : (ℕ → Bool) → List Place → ℕ
+looked_for test [] = 0
+looked_for test (p ∷ ps) = if test p.job then 1 else 1 + looked_for test ps

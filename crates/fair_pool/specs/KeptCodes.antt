@@ -1,0 +1,28 @@
+-- The codes of what the vectors behind the pools keep.
+use Rattle.std.specs.Prelude.{ℕ, Bool, List, refl}
+use Rattle.std.specs.Coded.{Coded, code_by, coded×, coded_ℕ, coded_bool, coded_list}
+use Rattle.fair_pool.specs.Codes.{hint_workers_code, ticket_code}
+use Rattle.fair_pool.specs.Hints.{HintWorkers}
+use Rattle.fair_pool.specs.Kept.{HintsState, QueueState, WaitingState}
+use Rattle.fair_pool.specs.declared.ticket.Place.{Place}
+use Rattle.fair_pool.specs.declared.ticket.Ticket.{Ticket}
+use Rattle.fair_pool.specs.contracts.ticket.Place as place
+
+-- the code of places in a queue
+abbrev pub place_code : Coded Place
+place_code = place.the_row.coded
+
+-- the code of queues
+abbrev pub queue_code : Coded QueueState
+queue_code = code_by (List Place × ℕ) (coded× (coded_list place_code) coded_ℕ) (λ q. (q.places, q.room)) (λ p. record { places = p.0; room = p.1 }) (λ _. refl)
+
+-- the code of tickets in their queues
+abbrev pub waiting_code : Coded WaitingState
+waiting_code =
+    code_by ((List Ticket × List Bool) × (ℕ × ℕ)) (coded× (coded× (coded_list ticket_code) (coded_list coded_bool)) (coded× coded_ℕ coded_ℕ))
+    (λ t. ((t.tickets, t.ready), (t.pools, t.spare)))
+    (λ p. record { tickets = p.0.0; ready = p.0.1; pools = p.1.0; spare = p.1.1 }) (λ _. refl)
+
+-- the code of tables of hints
+abbrev pub hints_code : Coded HintsState
+hints_code = code_by (HintWorkers × ℕ) (coded× hint_workers_code coded_ℕ) (λ h. (h.workers, h.room)) (λ p. record { workers = p.0; room = p.1 }) (λ _. refl)

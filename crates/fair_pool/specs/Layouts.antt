@@ -1,0 +1,43 @@
+-- What is declared. Pools, clients and workers are told by their numbers in file order.
+use Rattle.std.specs.Prelude.{ℕ, nat_lt, if◌then◌else◌, List, length, map, Option, Some, None}
+use Rattle.op_keys.specs.Names.{place_named, client_place}
+use Rattle.op_keys.specs.declared.declarations.ClientDecl.{ClientDecl}
+use Rattle.op_keys.specs.declared.declarations.PoolDecl.{PoolDecl}
+use Rattle.op_keys.specs.declared.declarations.WorkerDecl.{WorkerDecl}
+
+-- the declarations, each list in file order
+pub record Layout : Type 0 where
+  pub pools : List PoolDecl
+  pub clients : List ClientDecl
+  pub workers : List WorkerDecl
+
+-- the number of the pool of this name, or how many pools there are where none has it
+abbrev pub pool_number : List PoolDecl → List ℕ → ℕ
+pool_number pools n = place_named 0 (map (λ d. d.name) pools) n
+
+-- the number of a pool's client of this name, or how many clients there are
+abbrev pub client_number : List ClientDecl → List ℕ → List ℕ → ℕ
+client_number clients pool n = client_place 0 clients pool n
+
+-- the number of the worker of this name, or how many workers there are
+abbrev pub worker_number : List WorkerDecl → List ℕ → ℕ
+worker_number workers n = place_named 0 (map (λ d. d.name) workers) n
+
+-- a number that is below a count, and so declared
+abbrev pub declared : ℕ → ℕ → Option ℕ
+declared count n = if nat_lt n count then Some n else None
+
+-- for how long a ticket of the pool waits for its hint's worker
+abbrev pub hold_of : Option PoolDecl → ℕ
+hold_of (Some d) = d.hold
+hold_of None = 0
+
+-- how many jobs the worker runs at once
+abbrev pub capacity_of : Option WorkerDecl → ℕ
+capacity_of (Some d) = d.capacity
+capacity_of None = 0
+
+-- the number of the worker's pool
+abbrev pub worker_pool : Layout → Option WorkerDecl → ℕ
+worker_pool l (Some d) = pool_number l.pools d.pool
+worker_pool l None = length l.pools

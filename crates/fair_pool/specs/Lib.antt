@@ -1,0 +1,10 @@
+pub mod Layouts
+pub mod Sound
+pub mod Hints
+pub mod Fair
+pub mod Flags
+pub mod Pools
+pub mod Codes
+pub mod Order
+pub mod Kept
+pub mod KeptCodes

@@ -1,0 +1,251 @@
+//! Tickets in order of jobs, and the queues in which the ready ones stand.
+ghost use Rattle.std.specs.Prelude.{◌≡◌, ℕ, ◌+◌, ◌-◌, ◌<◌, ◌≤◌, [], max, true, false, nat_lt, map, length, slice_index_or, replicate, if◌then◌else◌, IfOk, OnOk, OnErr, Some, vec_len};
+ghost use Rattle.std.specs.Option.{option_copied};
+ghost use Rattle.std.specs.Vec.{vec_capacity};
+ghost use Rattle.fair_pool.specs.Fair.{ticket_of, has_ticket, with_ticket, without_ticket, job_before};
+ghost use Rattle.fair_pool.specs.Flags.{with_flag, flagged, without_flag};
+ghost use Rattle.fair_pool.specs.Kept.{place_of, place_before, queue_of, with_queue, QueueState};
+ghost use Rattle.fair_pool.specs.Order.{leading, placed, displaced, Rises};
+
+use crate::queue::Queue;
+use crate::room::insert_within;
+use crate::ticket::{Place, Ticket};
+use std::alloc::{AllocError, Global};
+use std::marker::Model;
+use value_core::NoMemory;
+
+/// The tickets of queued jobs.
+#[derive(Drop)]
+pub(crate) struct Waiting {
+    /// In order of jobs, searched by halving.
+    tickets: Vec<Ticket>,
+    /// Whether each ticket's job is ready.
+    ready: Vec<bool>,
+    /// For each pool the places of its ready tickets.
+    queues: Vec<Queue>,
+    /// For how many more tickets there is room.
+    spare: usize,
+}
+
+impl Model for Waiting {
+    ghost use Rattle.std.specs.Prelude.{length};
+    ghost use Rattle.std.specs.Vec.{vec_capacity};
+    ghost use Rattle.fair_pool.specs.KeptCodes.{waiting_code};
+    ghost use Rattle.fair_pool.specs.Kept.{WaitingState, IsWaitingKept};
+
+    ghost Value = { WaitingState };
+
+    ghost coded = { waiting_code };
+
+    ghost view = { λ w. record { tickets = w.tickets.items; ready = w.ready.items; pools = length w.queues.items; spare = w.spare } };
+
+    ghost invariant = { λ w. IsWaitingKept w.tickets.items w.ready.items w.queues.items w.spare (vec_capacity w.tickets) (vec_capacity w.ready) };
+}
+
+fn empty_queues(alloc: Global, count: usize) -> Result<Vec<Queue>, NoMemory>
+    ensures len { IfOk result (λ qs. length qs.items ≡ count) }
+    ensures places { IfOk result (λ qs. (i : ℕ) (d : QueueState) → i < length qs.items → (slice_index_or qs.items i d).places ≡ []) }
+{
+    let mut queues = Vec::new(alloc);
+    for _n in 0..count {
+        queues.push(Queue::new(alloc))?;
+    }
+    Ok(queues)
+}
+
+fn copy_of_queues(alloc: Global, queues: &[Queue], count: usize) -> Result<Vec<Queue>, NoMemory>
+    requires { (i : ℕ) (d : QueueState) → i < length queues.now → length (slice_index_or queues.now i d).places ≤ count }
+    ensures len { IfOk result (λ qs. length qs.items ≡ length queues.now) }
+    ensures places { IfOk result (λ qs. (i : ℕ) (d : QueueState) → i < length qs.items → (slice_index_or qs.items i d).places ≡ (slice_index_or queues.now i d).places) }
+    ensures room { IfOk result (λ qs. (i : ℕ) (d : QueueState) → i < length qs.items → count ≤ (slice_index_or qs.items i d).room) }
+{
+    let mut copies = Vec::new(alloc);
+    for queue in queues {
+        copies.push(queue.copy(alloc, count)?)?;
+    }
+    Ok(copies)
+}
+
+fn copy_of_tickets(alloc: Global, tickets: &[Ticket]) -> Result<Vec<Ticket>, NoMemory>
+    ensures { IfOk result (λ ks. ks.items ≡ tickets.now) }
+{
+    let mut copies = Vec::new(alloc);
+    for ticket in tickets {
+        copies.push(ticket.copy(alloc)?)?;
+    }
+    Ok(copies)
+}
+
+/// Makes room in each queue for so many places in all.
+fn reserve_all(queues: &mut Vec<Queue>, count: usize) -> Result<(), NoMemory>
+    ensures len { length queues.new.items ≡ length queues.old.items }
+    ensures places { (i : ℕ) (d : QueueState) → i < length queues.old.items → (slice_index_or queues.new.items i d).places ≡ (slice_index_or queues.old.items i d).places }
+    ensures room { (i : ℕ) (d : QueueState) → i < length queues.old.items → (slice_index_or queues.old.items i d).room ≤ (slice_index_or queues.new.items i d).room }
+    ensures ok { OnOk result ((i : ℕ) (d : QueueState) → i < length queues.old.items → count ≤ (slice_index_or queues.new.items i d).room) }
+{
+    for i in 0..queues.len() {
+        let queue = &mut queues[i];
+        queue.reserve(count)?;
+    }
+    Ok(())
+}
+
+/// Adds a place to a pool's queue, where its job is ready; there is room for it.
+fn enqueue_ready(queues: &mut Vec<Queue>, pool: usize, place: Place, ready: bool)
+    requires pool { pool < length queues.old.items }
+    requires room { ready ≡ true → (d : QueueState) → length (slice_index_or queues.old.items pool d).places < (slice_index_or queues.old.items pool d).room }
+    ensures { queues.new.items ≡ (if ready then with_queue (placed place_before place) pool queues.old.items else queues.old.items) }
+{
+    if ready {
+        let queue = &mut queues[pool];
+        queue.add(place);
+    }
+}
+
+/// Takes a place from a pool's queue, where its job was ready.
+fn dequeue_ready(queues: &mut Vec<Queue>, pool: usize, place: Place, was_ready: bool)
+    requires pool { pool < length queues.old.items }
+    requires there { was_ready ≡ true → (d : QueueState) → leading (λ p. place_before p place) (slice_index_or queues.old.items pool d).places < length (slice_index_or queues.old.items pool d).places }
+    ensures { queues.new.items ≡ (if was_ready then with_queue (displaced place_before place) pool queues.old.items else queues.old.items) }
+{
+    if was_ready {
+        let queue = &mut queues[pool];
+        queue.remove(place);
+    }
+}
+
+impl Waiting {
+    ghost use Rattle.fair_pool.specs.Kept.{WaitingState};
+
+    /// No ticket, and queues for so many pools.
+    pub(crate) fn new(alloc: Global, pools: usize) -> Result<Waiting, NoMemory>
+        ensures { IfOk result (λ w. w ≡ record { tickets = []; ready = []; pools = pools; spare = 0 }) }
+    {
+        Ok(Waiting {
+            tickets: Vec::new(alloc),
+            ready: Vec::new(alloc),
+            queues: empty_queues(alloc, pools)?,
+            spare: 0,
+        })
+    }
+
+    pub(crate) fn spare(&self) -> usize
+        ensures { result ≡ self.now.spare }
+    {
+        self.spare
+    }
+
+    pub(crate) fn tickets(&self) -> &[Ticket]
+        ensures { result.now ≡ self.now.tickets }
+    {
+        self.tickets.as_slice()
+    }
+
+    /// How many tickets have a smaller job.
+    fn rank(&self, job: u64) -> usize
+        ensures { result ≡ leading (λ k. nat_lt k.job job) self.now.tickets }
+    {
+        self.tickets.as_slice().partition_point(
+            |k: &Ticket| -> bool
+                ensures { result ≡ nat_lt k.now.job job }
+            { k.job < job },
+        )
+    }
+
+    /// The ticket of a job.
+    pub(crate) fn find(&self, job: u64) -> Option<&Ticket>
+        ensures { option_copied result ≡ ticket_of job self.now.tickets }
+    {
+        let at = self.rank(job);
+        if at < self.tickets.len() && self.tickets[at].job == job {
+            Some(&self.tickets[at])
+        } else {
+            None
+        }
+    }
+
+    /// The places of a pool's ready tickets, the next one first.
+    pub(crate) fn queue(&self, pool: usize) -> &[Place]
+        requires { pool < self.now.pools }
+        ensures places { result.now ≡ map place_of (queue_of pool self.now.tickets self.now.ready) }
+        ensures rising { Rises job_before self.now.tickets }
+    {
+        self.queues[pool].places()
+    }
+
+    /// Adds a ticket, for which there is room.
+    pub(crate) fn add(&mut self, ticket: Ticket, ready: bool)
+        requires fresh { has_ticket ticket.job self.old.tickets ≡ false }
+        requires pool { ticket.pool < self.old.pools }
+        requires room { 0 < self.old.spare }
+        ensures { self.new ≡ record self.old { tickets = with_ticket ticket self.old.tickets; ready = with_flag ticket.job ready self.old.tickets self.old.ready; spare = self.old.spare - 1 } }
+    {
+        let at = self.rank(ticket.job);
+        let pool = ticket.pool as usize;
+        let place = ticket.place();
+        enqueue_ready(&mut self.queues, pool, place, ready);
+        insert_within(&mut self.tickets, at, ticket);
+        insert_within(&mut self.ready, at, ready);
+        self.spare -= 1;
+    }
+
+    /// A job becomes ready, or is no longer.
+    pub(crate) fn set_ready(&mut self, job: u64, ready: bool)
+        requires { has_ticket job self.old.tickets ≡ true }
+        ensures { self.new ≡ record self.old { ready = flagged job ready self.old.tickets self.old.ready } }
+    {
+        let at = self.rank(job);
+        if self.ready[at] == ready {
+            return;
+        }
+        let ticket = &self.tickets[at];
+        let pool = ticket.pool as usize;
+        let place = ticket.place();
+        enqueue_ready(&mut self.queues, pool, place, ready);
+        dequeue_ready(&mut self.queues, pool, place, !ready);
+        self.ready[at] = ready;
+    }
+
+    /// Takes a job's ticket away.
+    pub(crate) fn remove(&mut self, job: u64) -> Ticket
+        requires { has_ticket job self.old.tickets ≡ true }
+        ensures ticket { ticket_of job self.old.tickets ≡ Some result }
+        ensures left { self.new ≡ record self.old { tickets = without_ticket job self.old.tickets; ready = without_flag job self.old.tickets self.old.ready } }
+    {
+        let at = self.rank(job);
+        let ticket = self.tickets.remove(at);
+        let was_ready = self.ready.remove(at);
+        let pool = ticket.pool as usize;
+        let place = ticket.place();
+        dequeue_ready(&mut self.queues, pool, place, was_ready);
+        ticket
+    }
+
+    /// Makes room for so many more tickets.
+    pub(crate) fn reserve(&mut self, more: usize) -> Result<(), NoMemory>
+        ensures ok { OnOk result (self.new ≡ record self.old { spare = max self.old.spare more }) }
+        ensures err { OnErr result (self.new ≡ self.old) }
+    {
+        if more <= self.spare {
+            return Ok(());
+        }
+        let count = self.tickets.len().checked_add(more).ok_or(AllocError)?;
+        self.tickets.reserve(more)?;
+        self.ready.reserve(more)?;
+        reserve_all(&mut self.queues, count)?;
+        self.spare = more;
+        Ok(())
+    }
+
+    /// Equal tickets, with no room for more.
+    pub(crate) fn copy(&self, alloc: Global) -> Result<Waiting, NoMemory>
+        ensures { IfOk result (λ w. w ≡ record self.now { spare = 0 }) }
+    {
+        Ok(Waiting {
+            tickets: copy_of_tickets(alloc, self.tickets.as_slice())?,
+            ready: Vec::from_slice(alloc, self.ready.as_slice())?,
+            queues: copy_of_queues(alloc, self.queues.as_slice(), self.tickets.len())?,
+            spare: 0,
+        })
+    }
+}
