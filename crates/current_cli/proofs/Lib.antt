@@ -1,5 +1,4 @@
-pub mod Parts
-pub mod Sounds
+pub mod Plans
 pub mod Stops
 pub mod SoFar
 pub mod Restored

@@ -9,11 +9,11 @@ use Rattle.term_core.specs.declared.program.Program.{Program}
 use Rattle.io_ends.specs.Causes.{AppendsFront}
 use Rattle.io_ends.specs.declared.lines.Line.{Line}
 use Rattle.io_ends.specs.declared.lines.Line.TheVariants.{Whole, TooLong, End}
-use Rattle.io_ends.specs.Lines.{TextLine, Bytes, Long, lines_of, NextLine}
+use Rattle.io_ends.specs.Lines.{lines_of, NextLine}
 use Rattle.current_cli.specs.declared.session.SessionEnd.{SessionEnd}
 use Rattle.current_cli.specs.declared.session.SessionEnd.TheVariants.{Quit}
 use Rattle.current_cli.specs.Marks.{Mark, Print, Did, Stopped}
-use Rattle.current_cli.specs.Cores.{Core, opening, answer, after}
+use Rattle.current_cli.specs.Cores.{Core, opening, after}
 use Rattle.current_cli.specs.Transcripts.{published, marks_of, marks_from, transcript, line_answer, IsRunOf, IsTold}
 use Rattle.current_cli.proofs.Stops.{did_none, did_more, did_stops, then_stopped, stopped_longer, nothing_done, print_failed, printed}
 

@@ -8,7 +8,7 @@ use Rattle.std.specs.declared.option.Option.TheVariants.{None, Some}
 use Rattle.std.specs.Io.KnownBytes.{Appends}
 use Rattle.std.proofs.lemmas.List.{append-nil, take-append-drop}
 use Rattle.io_ends.specs.Causes.{AppendsFront}
-use Rattle.current_cli.specs.Marks.{Mark, Print, texts, Did, IsFront, IsPart, Stopped}
+use Rattle.current_cli.specs.Marks.{Mark, Print, texts, Did, IsPart, Stopped}
 
 appends_more : (a b c : Option (List ℕ)) (x y z : List ℕ) → Appends a b x → Appends b c y → x ++ y ≡ z → Appends a c z
 appends_more None b c x y z p q e = tt

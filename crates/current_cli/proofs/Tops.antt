@@ -1,21 +1,22 @@
 -- What the program does for its words and its file.
-use Rattle.std.proofs.Common.{◌≡◌, ◌≢◌, ℕ, ◌+◌, ◌<◌, ◌≤◌, Bool, true, false, List, [], ◌∷◌, ◌++◌, length, take, refl, sym, ap, subst, ◌∙◌, arith, inl, inr}
-use Rattle.std.specs.Prelude.{⊤, ◌⊎◌, IfSome, codes}
+use Rattle.std.proofs.Common.{◌≡◌, ◌≢◌, ℕ, ◌+◌, ◌<◌, ◌≤◌, List, [], ◌∷◌, length, take, refl, sym, ap, subst, ◌∙◌, arith, inl, inr}
+use Rattle.std.specs.Prelude.{◌⊎◌, IfSome, codes}
 use Rattle.std.specs.Global.{Vec}
 use Rattle.std.specs.declared.option.Option.{Option}
 use Rattle.std.specs.declared.option.Option.TheVariants.{None, Some}
 use Rattle.std.proofs.lemmas.List.{length-take, take_all}
 use Rattle.term_core.specs.declared.program.Program.{Program}
-use Rattle.io_ends.specs.Causes.{Rose}
 use Rattle.io_ends.specs.Told.{content_now, IsReadOf}
 use Rattle.io_ends.specs.declared.ends.FileRead.TheVariants.{Found, Missing}
 use Rattle.pipe_text.specs.Standing.{StandsFor}
 use Rattle.current_cli.specs.declared.session.SessionEnd.{SessionEnd}
 use Rattle.current_cli.specs.declared.session.SessionEnd.TheVariants.{Quit, ReadFault, WriteFault, NoMemory}
-use Rattle.current_cli.specs.Checking.{IsSound}
-use Rattle.current_cli.specs.Marks.{Mark, Print, Did, Stopped}
+use Rattle.current_cli.specs.Marks.{Print, Did, Stopped}
 use Rattle.current_cli.specs.Transcripts.{IsTold, IsRunOf, transcript}
-use Rattle.current_cli.specs.Top.{Task, wrong_words, no_file, no_pipeline, session_of, IsTaskOfContent, IsTaskOfFile, IsTask, status_of, marks_for, IsStatusOf, Follows, IsRun, IsRunOn, HoldsPipeline, end_status}
+use Rattle.current_cli.specs.Top.{IsTaskOfFile, IsTask, status_of, marks_for, IsStatusOf, Follows, IsRun, IsRunOn, HoldsPipeline, end_status}
+use Rattle.current_cli.specs.Refusals.{read_text, check_text}
+use Rattle.current_cli.specs.Plans.{Task, wrong_words, no_file, refused_file, session_of, IsTaskOfContent, IsRefused, unread, unsound, unbuilt, task_of}
+use Rattle.current_cli.proofs.Plans.{asked_is, few_or_many, too_many, part_is_long}
 use Rattle.current_cli.proofs.Stops.{nothing_done}
 
 -- the status and the marks of one task
@@ -27,7 +28,7 @@ Done left task status w w' = IsStatusOf task status × IsTold left (λ bytes. Fo
 fault_apart : (task : Task) (n : ℕ) → 3 < n → n ≢ status_of task
 fault_apart wrong_words n more same = absurd (omega (arith, more, same))
 fault_apart no_file n more same = absurd (omega (arith, more, same))
-fault_apart no_pipeline n more same = absurd (omega (arith, more, same))
+fault_apart (refused_file line) n more same = absurd (omega (arith, more, same))
 fault_apart (session_of p) n more same = absurd (omega (arith, more, same))
 
 nothing_told : (left : Option (List ℕ)) (task : Task) (status : ℕ) (w : Option (List ℕ)) → status ≢ status_of task → IsTold left (λ bytes. Follows task bytes status w w)
@@ -79,19 +80,17 @@ session_done left p end w w' run = (status_of_end p end, session_told left p end
 pub runs_nothing : (content : List ℕ) (left : Option (List ℕ)) (status : ℕ) (w : Option (List ℕ)) → (status ≡ 4) ⊎ ((status ≡ 5) ⊎ (status ≡ 7)) → 3 < status → IsRunOn content left status w w
 runs_nothing content left status w is more task t = nothing_of left task status w is more
 
-pub refuses : (content : List ℕ) (left : Option (List ℕ)) (status : ℕ) (w w' : Option (List ℕ)) → ((p : Program) → StandsFor content p → IsSound p → ⊥)
-    → (status ≡ 3) ⊎ (status ≡ 5) → Stopped (Print (codes "error: pipeline\n") ∷ []) w w' → (status ≡ 3 → Did (Print (codes "error: pipeline\n") ∷ []) [] w w') → IsRunOn content left status w w'
-refuses content left status w w' none ends stopped whole no_pipeline t = one_line left no_pipeline (codes "error: pipeline\n") status w w' (λ bytes. refl) ends stopped whole
-refuses content left status w w' none ends stopped whole (session_of p) t = absurd (none p t.0 t.1)
-refuses content left status w w' none ends stopped whole no_file t = absurd t
-refuses content left status w w' none ends stopped whole wrong_words t = absurd t
+pub runs_task : (content : List ℕ) (left : Option (List ℕ)) (task : Task) (status : ℕ) (w w' : Option (List ℕ)) → task ≡ task_of content
+    → Done left task status w w' → IsRunOn content left status w w'
+runs_task content left task status w w' is done asked t = subst (λ (s : Task). Done left s status w w') (is ∙ sym (asked_is content asked t)) done
 
-pub runs : (content : List ℕ) (left : Option (List ℕ)) (p : Program) (end : SessionEnd) (w w' : Option (List ℕ)) → StandsFor content p → IsSound p → ((q : Program) → StandsFor content q → q ≡ p)
+pub refuses : (content line : List ℕ) (left : Option (List ℕ)) (status : ℕ) (w w' : Option (List ℕ)) → refused_file line ≡ task_of content
+    → (status ≡ 3) ⊎ (status ≡ 5) → Stopped (Print line ∷ []) w w' → (status ≡ 3 → Did (Print line ∷ []) [] w w') → IsRunOn content left status w w'
+refuses content line left status w w' is ends stopped whole = runs_task content left (refused_file line) status w w' is (one_line left (refused_file line) line status w w' (λ bytes. refl) ends stopped whole)
+
+pub runs : (content : List ℕ) (left : Option (List ℕ)) (p : Program) (end : SessionEnd) (w w' : Option (List ℕ)) → session_of p ≡ task_of content
     → IsTold left (λ bytes. IsRunOf (transcript p bytes) end w w') → IsRunOn content left (end_status end) w w'
-runs content left p end w w' stands sound only run no_pipeline t = absurd (t p stands sound)
-runs content left p end w w' stands sound only run (session_of q) t = subst (λ (r : Program). Done left (session_of r) (end_status end) w w') (sym (only q t.0)) (session_done left p end w w' run)
-runs content left p end w w' stands sound only run no_file t = absurd t
-runs content left p end w w' stands sound only run wrong_words t = absurd t
+runs content left p end w w' is run = runs_task content left (session_of p) (end_status end) w w' is (session_done left p end w w' run)
 
 -- ---- the content that is held, and the one that was read of it
 
@@ -101,12 +100,18 @@ read_whole content v limit is few = is ∙ take_all (limit + 1) content (let l =
 held_whole : (content v : List ℕ) (limit : ℕ) → v ≡ take (limit + 1) content → length content ≤ limit → v ≡ content
 held_whole content v limit is few = is ∙ take_all (limit + 1) content (omega (arith, few))
 
+-- a content beyond the limit is refused, and so is the part of it that was read
+read_refusal : (content v why : List ℕ) → v ≡ take (1048576 + 1) content → IsRefused content why → IsRefused v why
+read_refusal content v why is (unread f e) = elim (few_or_many content) [ inl few ↦ subst (λ (c : List ℕ). IsRefused c (read_text f)) (sym (held_whole content v 1048576 is few)) (unread f e) | inr many ↦ unread f (too_many v (part_is_long content v is many) ∙ (sym (too_many content many) ∙ e)) ]
+read_refusal content v why is (unsound p f stands e) = subst (λ (c : List ℕ). IsRefused c (check_text p f)) (sym (held_whole content v 1048576 is stands.few_bytes)) (unsound p f stands e)
+read_refusal content v why is (unbuilt p stands sound e) = subst (λ (c : List ℕ). IsRefused c (codes "not built")) (sym (held_whole content v 1048576 is stands.few_bytes)) (unbuilt p stands sound e)
+
 -- a task of what is held is one of what was read
 read_task : (content v : List ℕ) (task : Task) → v ≡ take (1048576 + 1) content → IsTaskOfContent content task → IsTaskOfContent v task
 read_task content v wrong_words is t = t
 read_task content v no_file is t = t
-read_task content v no_pipeline is t = λ p stands sound. t p (subst (λ (c : List ℕ). StandsFor c p) (read_whole content v 1048576 is stands.few_bytes) stands) sound
-read_task content v (session_of p) is t = (subst (λ (c : List ℕ). StandsFor c p) (sym (held_whole content v 1048576 is t.0.few_bytes)) t.0, t.1)
+read_task content v (refused_file line) is t = (t.0, t.1, read_refusal content v t.0 is t.2)
+read_task content v (session_of p) is t = (subst (λ (c : List ℕ). StandsFor c p) (sym (held_whole content v 1048576 is t.0.few_bytes)) t.0, t.1, t.2)
 
 found_task : (held : Option (List ℕ)) (v : Vec ℕ) (task : Task) → IsReadOf held 1048576 (Found v) → IsTaskOfFile held task → IsTaskOfContent v.items task
 found_task None v task read t = absurd read
@@ -154,7 +159,7 @@ ends_whole status A B C (inr (inr (inr seven))) read write a b c = inr seven
 
 held_task : (o : Option (List ℕ)) (contents : List ℕ → List (List ℕ)) → HoldsPipeline o contents → (p : Program) × IsTask o contents (session_of p)
 held_task None contents holds = absurd holds
-held_task (Some path) contents (content, p, is, stands, sound) = (p, subst (λ (h : Option (List ℕ)). IsTaskOfFile h (session_of p)) (sym is) (stands, sound))
+held_task (Some path) contents (content, p, is, asked) = (p, subst (λ (h : Option (List ℕ)). IsTaskOfFile h (session_of p)) (sym is) asked)
 
 pub completes : (h : Option (List ℕ → List (List ℕ))) (o left : Option (List ℕ)) (status : ℕ) (w w' : Option (List ℕ)) (A B C : Type 0) → IfSome h (λ contents. IsRun o contents left status w w')
     → (status ≡ 4 → A ⊎ C) → (status ≡ 5 → B) → IfSome h (λ contents. HoldsPipeline o contents → (A → ⊥) → (B → ⊥) → (C → ⊥) → (status ≡ 0) ⊎ (status ≡ 7))

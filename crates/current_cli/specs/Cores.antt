@@ -1,5 +1,5 @@
 -- A pipeline between two lines of its input, and what a line makes of it.
-use Rattle.std.specs.Prelude.{ℕ, ◌+◌, ◌^◌, ◌<◌, length, if◌then◌else◌, List, [], ◌∷◌, map, Option, Some, None, slice_get, slice_set, codes}
+use Rattle.std.specs.Prelude.{ℕ, ◌+◌, ◌^◌, ◌<◌, length, if◌then◌else◌, List, [], map, Option, Some, None, slice_get, slice_set, codes}
 use Rattle.value_core.specs.declared.value.Value.{Value, Value-F, out-Value}
 use Rattle.value_core.specs.declared.value.Outcome.{Outcome}
 use Rattle.value_core.specs.declared.value.Kind.{Kind}

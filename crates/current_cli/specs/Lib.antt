@@ -1,5 +1,6 @@
 pub mod Controls
-pub mod Checking
+pub mod Refusals
+pub mod Plans
 pub mod Versions
 pub mod Cores
 pub mod Settings

@@ -7,11 +7,10 @@ use Rattle.std.specs.declared.option.Option.{Option}
 use Rattle.std.specs.declared.option.Option.TheVariants.{None, Some}
 use Rattle.term_core.specs.declared.program.Program.{Program}
 use Rattle.io_ends.specs.Told.{content_now}
-use Rattle.pipe_text.specs.Standing.{StandsFor}
 use Rattle.current_cli.specs.declared.session.SessionEnd.{SessionEnd}
 use Rattle.current_cli.specs.declared.session.SessionEnd.TheVariants.{Quit, ReadFault, WriteFault, NoMemory}
-use Rattle.current_cli.specs.Checking.{IsSound}
 use Rattle.current_cli.specs.Marks.{Mark, Print, Did, Stopped}
+use Rattle.current_cli.specs.Plans.{Task, wrong_words, no_file, refused_file, session_of, IsTaskOfContent}
 use Rattle.current_cli.specs.Transcripts.{IsTold, transcript}
 
 -- a path that isn't empty
@@ -24,20 +23,6 @@ file_of [] = None
 file_of (command ∷ []) = None
 file_of (command ∷ path ∷ []) = if bytes_eq (string_bytes command) (codes "run") then path_of (string_bytes path) else None
 file_of (command ∷ path ∷ more ∷ words) = None
-
--- What the words and the file ask for: a refusal, or a session on the program that the file stands for.
-pub data Task : Type 0 where
-  wrong_words : Task
-  no_file : Task
-  no_pipeline : Task
-  session_of : Program → Task
-
--- a content asks for a session on a sound program that it stands for, or it stands for none
-abbrev pub IsTaskOfContent : List ℕ → Task → Type 0
-IsTaskOfContent content (session_of p) = StandsFor content p × IsSound p
-IsTaskOfContent content no_pipeline = (p : Program) → StandsFor content p → IsSound p → ⊥
-IsTaskOfContent content no_file = ⊥
-IsTaskOfContent content wrong_words = ⊥
 
 -- the same of a file that may be missing
 abbrev pub IsTaskOfFile : Option (List ℕ) → Task → Type 0
@@ -53,14 +38,14 @@ IsTask (Some path) contents task = IsTaskOfFile (content_now (contents path)) ta
 abbrev pub status_of : Task → ℕ
 status_of wrong_words = 2
 status_of no_file = 2
-status_of no_pipeline = 3
+status_of (refused_file line) = 3
 status_of (session_of p) = 0
 
 -- what a task writes over the bytes of the input
 abbrev pub marks_for : Task → List ℕ → List Mark
 marks_for wrong_words bytes = Print (codes "error: usage\n") ∷ []
 marks_for no_file bytes = Print (codes "error: no file\n") ∷ []
-marks_for no_pipeline bytes = Print (codes "error: pipeline\n") ∷ []
+marks_for (refused_file line) bytes = Print line ∷ []
 marks_for (session_of p) bytes = transcript p bytes
 
 -- the status is that of the task, or that of a fault: of reading, of writing, or want of memory
@@ -79,10 +64,10 @@ IsRun path contents left status w w' = (task : Task) → IsTask path contents ta
 abbrev pub IsRunOn : List ℕ → Option (List ℕ) → ℕ → Option (List ℕ) → Option (List ℕ) → Type 0
 IsRunOn content left status w w' = (task : Task) → IsTaskOfContent content task → IsStatusOf task status × IsTold left (λ bytes. Follows task bytes status w w')
 
--- the path names a content that stands for a sound program
+-- the path names a content that stands for a sound program which can be run
 abbrev pub HoldsPipeline : Option (List ℕ) → (List ℕ → List (List ℕ)) → Type 0
 HoldsPipeline None contents = ⊥
-HoldsPipeline (Some path) contents = (content : List ℕ) × (p : Program) × (content_now (contents path) ≡ Some content) × StandsFor content p × IsSound p
+HoldsPipeline (Some path) contents = (content : List ℕ) × (p : Program) × (content_now (contents path) ≡ Some content) × IsTaskOfContent content (session_of p)
 
 -- the status of a session's end
 abbrev pub end_status : SessionEnd → ℕ

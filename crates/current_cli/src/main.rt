@@ -1,12 +1,13 @@
 //! Virumoleas: keeps the nodes of a pipeline evaluated as its inputs change.
 #![tactic(auto)]
 
-mod checking;
 mod controls;
 mod evaluating;
 mod laws;
 mod lines;
 mod pipeline;
+mod planning;
+mod refusals;
 mod session;
 mod top;
 mod words;

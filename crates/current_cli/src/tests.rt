@@ -99,26 +99,7 @@ fn a_session_prints_its_versions(rt: HostRuntime) -> Result<(), Fail> {
 
 #[test]
 fn a_refusal_prints_its_line(rt: HostRuntime) -> Result<(), Fail> {
-    let table: [(&[&str], &str, u8, &str); 9] = [
-        (&["run", "p"], "", 3, "error: pipeline\n"),
-        (
-            &["run", "p"],
-            "pipeline 1 node n (input gone)",
-            3,
-            "error: pipeline\n",
-        ),
-        (
-            &["run", "p"],
-            "pipeline 1 node n (node n)",
-            3,
-            "error: pipeline\n",
-        ),
-        (
-            &["run", "p"],
-            "pipeline 1 node n (return 1) node n (return 2)",
-            3,
-            "error: pipeline\n",
-        ),
+    let table: [(&[&str], &str, u8, &str); 5] = [
         (&["run", "q"], FIRST, 2, "error: no file\n"),
         (&["run", ""], FIRST, 2, "error: usage\n"),
         (&["run"], FIRST, 2, "error: usage\n"),
@@ -138,6 +119,62 @@ fn a_refusal_prints_its_line(rt: HostRuntime) -> Result<(), Fail> {
 }
 
 #[test]
+fn a_refused_file_has_the_line_of_its_first_fault(rt: HostRuntime) -> Result<(), Fail> {
+    let table = [
+        ("", "error: syntax at 0\n"),
+        ("pipeline 1\nnode n (fial)", "error: syntax at 19\n"),
+        ("pipeline 1\ninput A text \"a\"", "error: lex at 17\n"),
+        (
+            "pipeline 1\nnode n (return 1)\nnode n (return 1)",
+            "error: duplicate n at 34\n",
+        ),
+        (
+            "pipeline 1\npool p hold 0\nworker w p 9",
+            "error: limit capacity 8 at 36\n",
+        ),
+        (
+            "pipeline 1\ninput head text \"a\"\nnode n (map add (input head))",
+            "error: node n: kind mismatch: found text, wanted (num, num)\n",
+        ),
+        ("pipeline 1\nnode n (node n)", "error: node n: forward n\n"),
+        ("pipeline 1\nworker w p 1", "error: worker w: unknown p\n"),
+        (
+            "pipeline 1\ninput t text \"a\" watch \"t.txt\"",
+            "error: not built\n",
+        ),
+    ];
+    for (file, expected) in table {
+        let outcome = run(rt.alloc(), &["run", "p"], file, b"", NONE)?;
+        assert_eq!(rt; outcome.status, 3, "{file}");
+        assert_eq!(rt;
+            str::from_utf8(outcome.written.as_slice())?,
+            expected,
+            "{file}"
+        );
+    }
+    Ok(())
+}
+
+#[test]
+fn functions_and_lists_are_evaluated(rt: HostRuntime) -> Result<(), Fail> {
+    let file =
+        "pipeline 1\ninput xs list [\"a\", \"b\"]\nnode up (list_map x (input xs) (map trim (var x)))";
+    let outcome = run(
+        rt.alloc(),
+        &["run", "p"],
+        file,
+        b"set xs [\"c\", \"a\", \"b\"]\nset xs \"c\"\n",
+        NONE,
+    )?;
+    assert_eq!(rt; outcome.status, 0);
+    assert_eq!(rt;
+        str::from_utf8(outcome.written.as_slice())?,
+        "version 1\nup: ok [\"a\", \"b\"]\nversion 2\nup: ok [\"c\", \"a\", \"b\"]\nrefused wrong kind\n"
+    );
+    Ok(())
+}
+
+#[test]
 fn a_kind_has_64_parts_at_most(rt: HostRuntime) -> Result<(), Fail> {
     let most =
         "pipeline 1 node a (return 1) node b (pair (node a) (node a)) node c (pair (node b) (node b)) node d (pair (node c) (node c)) node e (pair (node d) (node d)) node f (pair (node e) (node e))";
@@ -146,6 +183,10 @@ fn a_kind_has_64_parts_at_most(rt: HostRuntime) -> Result<(), Fail> {
     let more = format!(in rt.alloc(); "{most} node g (pair (node f) (return 1))")?;
     let outcome = run(rt.alloc(), &["run", "p"], more.as_str(), b"", NONE)?;
     assert_eq!(rt; outcome.status, 3);
+    assert_eq!(rt;
+        str::from_utf8(outcome.written.as_slice())?,
+        "error: node g: kind too large 65\n"
+    );
     Ok(())
 }
 

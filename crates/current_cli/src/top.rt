@@ -1,43 +1,17 @@
 //! All that the program does.
 ghost use Rattle.std.specs.Prelude.{◌≡◌, ◌≢◌, ◌≤◌, ◌<◌, ◌^◌, ℕ, List, [], ◌∷◌, ◌⊎◌, length, Option, None, Some, IfOk, IfSome, IfNone};
 ghost use Rattle.io_ends.specs.Causes.{Rose};
-ghost use Rattle.term_core.specs.declared.program.Program.{Program};
-ghost use Rattle.pipe_text.specs.Standing.{StandsFor};
-ghost use Rattle.current_cli.specs.Checking.{IsSound};
-ghost use Rattle.current_cli.specs.Cores.{IsNumbered};
 ghost use Rattle.current_cli.specs.Marks.{Did, Stopped, Print};
 ghost use Rattle.current_cli.specs.Top.{IsRun, IsRunOn, HoldsPipeline, file_of, end_status};
 
-use crate::checking::check;
+use crate::planning::{Plan, plan_of};
 use crate::session::{SessionEnd, print, session};
 use crate::words::file_of;
 use io_ends::{FileFault, FileRead, Files, Sink, Source};
-use pipe_text::{ReadFault, read_pipeline};
-use std::alloc::{AllocError, Global};
-use term_core::Program;
+use std::alloc::Global;
 
 /// A pipeline file has at most so many bytes.
 const FILE_LIMIT: usize = 1_048_576;
-
-/// The sound program that a file's content stands for.
-fn sound_program(alloc: Global, content: &[u8]) -> Result<Option<Program>, AllocError>
-    ensures some { IfOk result (λ o. IfSome o (λ p. StandsFor content.now p × IsSound p)) }
-    ensures only { IfOk result (λ o. IfSome o (λ p. (q : Program) → StandsFor content.now q → q ≡ p)) }
-    ensures none { IfOk result (λ o. IfNone o ((p : Program) → StandsFor content.now p → IsSound p → ⊥)) }
-    ensures numbered { IfOk result (λ o. IfSome o (λ p. IsNumbered p)) }
-{
-    match read_pipeline(alloc, content) {
-        Err(ReadFault::NoMemory) => Err(AllocError),
-        Err(ReadFault::Refused) => Ok(None),
-        Ok(program) => {
-            if check(alloc, &program)? {
-                Ok(Some(program))
-            } else {
-                Ok(None)
-            }
-        }
-    }
-}
 
 /// Prints the line of a refusal, and answers its status.
 fn refuse<K: Sink>(out: &mut K, line: &[u8], status: u8) -> u8
@@ -73,10 +47,10 @@ fn run<S: Source, K: Sink>(alloc: Global, content: &[u8], input: &mut S, out: &m
     ensures words { result ≢ 2 }
     ensures known { result ≤ 7 }
 {
-    match sound_program(alloc, content) {
+    match plan_of(alloc, content) {
         Err(_) => 7,
-        Ok(None) => refuse(out, b"error: pipeline\n", 3),
-        Ok(Some(program)) => status_of(session(alloc, program, input, out)),
+        Ok(Plan::Refused(line)) => refuse(out, line.as_bytes(), 3),
+        Ok(Plan::Session(program)) => status_of(session(alloc, program, input, out)),
     }
 }
 

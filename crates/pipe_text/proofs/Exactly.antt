@@ -1,12 +1,13 @@
--- Readers that take just what they should.
-use Rattle.std.proofs.Common.{◌≡◌, ℕ, true, List, [], ◌∷◌, ◌++◌, refl, ap, append_assoc}
+-- Readers that read what they should, whatever follows.
+use Rattle.std.proofs.Common.{◌≡◌, ℕ, Bool, true, false, List, [], ◌∷◌, ◌++◌, refl, ap, append_assoc}
 use Rattle.std.specs.Prelude.{◌==◌, Ok}
 use Rattle.value_core.specs.declared.token.Token.{Token}
-use Rattle.value_core.specs.declared.token.Token.TheVariants.{Mark}
+use Rattle.value_core.specs.declared.token.Token.TheVariants.{Mark, Name}
 use Rattle.value_core.specs.declared.lexing.Placed.{Placed}
 use Rattle.value_core.specs.declared.lexing.Stop.{Stop}
-use Rattle.pipe_text.specs.Grammar.{kinds}
-use Rattle.pipe_text.specs.Readers.{Reader, give, seq, Choice, branch, mark_at, mark_choice}
+use Rattle.value_core.specs.Literals.{kinds}
+use Rattle.std.specs.Prelude.{Option, Some}
+use Rattle.pipe_text.specs.Readers.{Reader, give, seq, Choice, branch, peek, mark_at, mark_choice, word_at, word_choice, next_passes}
 
 pub kinds-append : (xs ys : List Placed) → kinds (xs ++ ys) ≡ kinds xs ++ kinds ys
 kinds-append [] ys = refl
@@ -37,11 +38,9 @@ Raw P r a ks = (s : Stop) (front rest : List Placed) → kinds front ≡ ks → 
 pub record ReadsIf {A : Type 0} (P : List Placed → Type 0) (r : Reader A) (a : A) (ks : List Token) : Type 0 where
   pub reads : (s : Stop) (front rest : List Placed) → kinds front ≡ ks → P rest → r s (front ++ rest) ≡ Ok (a, rest)
 
--- whatever follows
 abbrev pub Any : List Placed → Type 0
 Any rest = Unit {0}
 
--- Whatever follows, the reader takes just these tokens, and gives this value.
 abbrev pub Takes : {A : Type 0} → Reader A → A → List Token → Type 0
 Takes r a ks = ReadsIf Any r a ks
 
@@ -89,8 +88,43 @@ raw_branch P table r k a ks e x s (t ∷ front) rest kinds_are p =
 pub reads_branch : {A : Type 0} (P : List Placed → Type 0) (table : Token → Choice A) (r : Reader A) (k : Token) (a : A) (ks : List Token) → table k ≡ Ok r → ReadsIf P r a ks → ReadsIf P (branch table) a (k ∷ ks)
 reads_branch P table r k a ks e x = record { reads = raw_branch P table r k a ks e x }
 
+raw_yes : {A : Type 0} (P : List Placed → Type 0) (test : Token → Bool) (yes_r no_r : Reader A) (k : Token) (a : A) (ks : List Token) → test k ≡ true → ReadsIf P yes_r a (k ∷ ks) → Raw P (peek test yes_r no_r) a (k ∷ ks)
+raw_yes P test yes_r no_r k a ks e x s [] rest kinds_are p = absurd cc
+raw_yes P test yes_r no_r k a ks e x s (t ∷ front) rest kinds_are p =
+    let c = cons_is t.token k (kinds front) ks kinds_are in
+    let passes : test t.token ≡ true = rw c.0 e in
+    rw passes (x.reads s (t ∷ front) rest kinds_are p)
+
+pub reads_yes : {A : Type 0} (P : List Placed → Type 0) (test : Token → Bool) (yes_r no_r : Reader A) (k : Token) (a : A) (ks : List Token) → test k ≡ true → ReadsIf P yes_r a (k ∷ ks) → ReadsIf P (peek test yes_r no_r) a (k ∷ ks)
+reads_yes P test yes_r no_r k a ks e x = record { reads = raw_yes P test yes_r no_r k a ks e x }
+
+raw_no : {A : Type 0} (P : List Placed → Type 0) (test : Token → Bool) (yes_r no_r : Reader A) (k : Token) (a : A) (ks : List Token) → test k ≡ false → ReadsIf P no_r a (k ∷ ks) → Raw P (peek test yes_r no_r) a (k ∷ ks)
+raw_no P test yes_r no_r k a ks e x s [] rest kinds_are p = absurd cc
+raw_no P test yes_r no_r k a ks e x s (t ∷ front) rest kinds_are p =
+    let c = cons_is t.token k (kinds front) ks kinds_are in
+    let passes : test t.token ≡ false = rw c.0 e in
+    rw passes (x.reads s (t ∷ front) rest kinds_are p)
+
+pub reads_no : {A : Type 0} (P : List Placed → Type 0) (test : Token → Bool) (yes_r no_r : Reader A) (k : Token) (a : A) (ks : List Token) → test k ≡ false → ReadsIf P no_r a (k ∷ ks) → ReadsIf P (peek test yes_r no_r) a (k ∷ ks)
+reads_no P test yes_r no_r k a ks e x = record { reads = raw_no P test yes_r no_r k a ks e x }
+
 same_mark : (c : ℕ) → (c == c) ≡ true → mark_choice c (Mark c) ≡ Ok (give tt)
 same_mark c e = rw e refl
 
 pub reads_mark : (P : List Placed → Type 0) (c : ℕ) → (c == c) ≡ true → ReadsIf P (mark_at c) tt (Mark c ∷ [])
 reads_mark P c e = reads_branch P (mark_choice c) (give tt) (Mark c) tt [] (same_mark c e) (reads_give P tt)
+
+pub reads_word : {W : Type 0} (find : List ℕ → Option W) (n : List ℕ) (w : W) → find n ≡ Some w → Takes (word_at find) w (Name n ∷ [])
+reads_word {W} find n w e = reads_branch Any (word_choice find (λ x. Ok (give x))) (give w) (Name n) w [] (rw e refl) (reads_give Any w)
+
+-- the token in hand passes no such test
+abbrev pub Not : (Token → Bool) → List Placed → Type 0
+Not test rest = next_passes test rest ≡ false
+
+raw_skip : {A : Type 0} (P : List Placed → Type 0) (test : Token → Bool) (r q : Reader A) (a : A) → ReadsIf P q a [] → (s : Stop) (front rest : List Placed) → kinds front ≡ [] → P rest × Not test rest → peek test r q s (front ++ rest) ≡ Ok (a, rest)
+raw_skip P test r q a x s [] rest e (p, n) = rw n (x.reads s [] rest refl p)
+raw_skip P test r q a x s (t ∷ front) rest e p = absurd cc
+
+-- a part that isn't there
+pub reads_skip : {A : Type 0} (P : List Placed → Type 0) (test : Token → Bool) (r q : Reader A) (a : A) → ReadsIf P q a [] → ReadsIf (λ rest. P rest × Not test rest) (peek test r q) a []
+reads_skip P test r q a x = record { reads = raw_skip P test r q a x }

@@ -1,6 +1,6 @@
 -- Readers that take nothing but what a language has.
-use Rattle.std.proofs.Common.{◌≡◌, ℕ, Bool, true, false, cond, List, [], ◌∷◌, ◌++◌, Result, refl, sym, ap, subst, ◌∙◌, append_assoc}
-use Rattle.std.specs.Prelude.{◌==◌, Ok, Err, Option, Some, None}
+use Rattle.std.proofs.Common.{◌≡◌, ℕ, Bool, true, false, cond, List, [], ◌∷◌, ◌++◌, Result, refl, sym, ap, subst, ◌∙◌, append_assoc, inl, inr}
+use Rattle.std.specs.Prelude.{◌==◌, Ok, Err, Option, Some, None, ◌⊎◌}
 use Rattle.std.proofs.lemmas.Bool.Decides.{nat_tests}
 use Rattle.std.proofs.lemmas.List.{append-nil}
 use Rattle.std.proofs.Common.{arith}
@@ -9,8 +9,8 @@ use Rattle.value_core.specs.declared.token.Token.TheVariants.{Name, Number, Word
 use Rattle.value_core.specs.declared.lexing.Placed.{Placed}
 use Rattle.pipe_text.specs.declared.fault.Fault.{Fault}
 use Rattle.value_core.specs.declared.lexing.Stop.{Stop}
-use Rattle.pipe_text.specs.Grammar.{kinds}
-use Rattle.pipe_text.specs.Readers.{◌>>=◌, Reader, give, seq, Choice, go, branch, mark_at, mark_choice, chosen, word_choice, word_at}
+use Rattle.value_core.specs.Literals.{kinds}
+use Rattle.pipe_text.specs.Readers.{◌>>=◌, Reader, give, seq, Choice, go, branch, peek, next_passes, mark_at, mark_choice, chosen, word_choice, word_at}
 use Rattle.pipe_text.proofs.Exactly.{kinds-append}
 
 -- what is read is in the language
@@ -88,6 +88,23 @@ branch_found table L x s (t ∷ ts) a rest e =
 
 pub finds_branch : {A : Type 0} (table : Token → Choice A) (L : Token → A → List Token → Type 0) → ((k : Token) → FindsFor (table k) (L k)) → Finds (branch table) (ByFirst L)
 finds_branch table L x = record { found = branch_found table L x }
+
+-- one of both, by a test that is left open
+if_ok : {A : Type 0} (b : Bool) (x y : Result A Fault) (z : A) → cond b x y ≡ Ok z → (x ≡ Ok z) ⊎ (y ≡ Ok z)
+if_ok true x y z e = inl e
+if_ok false x y z e = inr e
+
+abbrev pub Either : {A : Type 0} → (A → List Token → Type 0) → (A → List Token → Type 0) → A → List Token → Type 0
+Either L M a ks = L a ks ⊎ M a ks
+
+peek_found : {A : Type 0} (test : Token → Bool) (r q : Reader A) (L M : A → List Token → Type 0) → Finds r L → Finds q M → (s : Stop) (ts : List Placed) (a : A) (rest : List Placed) → peek test r q s ts ≡ Ok (a, rest) → (front : List Placed) × (ts ≡ front ++ rest) × Either L M a (kinds front)
+peek_found test r q L M x y s ts a rest e = elim (if_ok (next_passes test ts) (r s ts) (q s ts) (a, rest) e) [
+  | inl h ↦ let f = x.found s ts a rest h in (f.0, f.1, inl f.2)
+  | inr h ↦ let f = y.found s ts a rest h in (f.0, f.1, inr f.2)
+]
+
+pub finds_peek : {A : Type 0} (test : Token → Bool) (r q : Reader A) (L M : A → List Token → Type 0) → Finds r L → Finds q M → Finds (peek test r q) (Either L M)
+finds_peek test r q L M x y = record { found = peek_found test r q L M x y }
 
 -- ---- one token
 

@@ -1,70 +1,143 @@
--- What was declared so far, and declarations behind it.
-use Rattle.std.proofs.Common.{◌≡◌, ℕ, ◌+◌, ◌-◌, ◌≤◌, ◌<◌, false, List, [], ◌∷◌, ◌++◌, map, length, length-append, sym, append_assoc, arith}
-use Rattle.std.proofs.lemmas.List.{append-nil}
-use Rattle.term_core.specs.declared.program.InputDecl.{InputDecl}
-use Rattle.term_core.specs.declared.program.NodeDecl.{NodeDecl}
-use Rattle.term_core.specs.declared.program.Program.{Program}
-use Rattle.pipe_text.specs.declared.declarations.SoFar.{SoFar}
-use Rattle.pipe_text.specs.Grammar.{nothing, with_input, with_node}
-use Rattle.pipe_text.specs.Standing.{Once, input_names, node_names}
-use Rattle.pipe_text.specs.FileReading.{Bounds, is_taken, add_input, add_node}
-use Rattle.pipe_text.proofs.Names.{map_append, once_more, not_taken, taken_new}
+-- Declarations behind others: their counts, their names and the bounds.
+use Rattle.std.proofs.Common.{◌≡◌, ℕ, ◌+◌, ◌-◌, ◌≤◌, ◌<◌, Bool, true, false, List, [], ◌∷◌, ◌++◌, refl, sym, ◌∙◌, arith, inl, inr}
+use Rattle.std.specs.Prelude.{◌⊎◌, ◌||◌, ◌&&◌, not}
+use Rattle.std.specs.List.{IsDistinct, AllByRecursion, list_any}
+use Rattle.pipe_text.specs.declared.declaration.Declaration.{Declaration}
+use Rattle.pipe_text.specs.declared.declaration.Declaration.TheVariants.{Input, Pool, Client, Worker, Op, Node}
+use Rattle.pipe_text.specs.declared.words.DeclWord.{DeclWord}
+use Rattle.pipe_text.specs.declared.words.DeclWord.TheVariants as decl
+use Rattle.pipe_text.specs.Standing.{terms_of, total, one_of, count_of, same_name}
+use Rattle.pipe_text.specs.FileReading.{Bounds, Seen, seen_in}
+use Rattle.pipe_text.specs.Looking.{word_of}
+pub use Rattle.pipe_text.specs.Firsts.{Sound}
 
--- the declarations of a program behind those before it, and so many terms more
-abbrev pub joined : SoFar → Program → ℕ → SoFar
-joined before p n = record { program = record before.program { inputs = before.program.inputs ++ p.inputs; nodes = before.program.nodes ++ p.nodes }; terms = before.terms + n }
+-- whether a declaration of this kind and name is known, for a client one of the same pool
+abbrev pub is_known : Seen → Declaration → Bool
+is_known seen (Input d) = seen.named decl.Input d.name
+is_known seen (Pool d) = seen.named decl.Pool d.name
+is_known seen (Client d) = seen.paired d.name d.pool
+is_known seen (Worker d) = seen.named decl.Worker d.name
+is_known seen (Op d) = seen.named decl.Op d.name
+is_known seen (Node d n) = seen.named decl.Node d.name
 
-pub joined_nothing : (before : SoFar) → joined before nothing 0 ≡ before
-joined_nothing before = λ i. record { program = record before.program { inputs = append-nil before.program.inputs i; nodes = append-nil before.program.nodes i }; terms = (let e : before.terms + 0 ≡ before.terms = omega arith in e) i }
+-- a declaration behind those that are known keeps the bounds
+pub record Fits (b : Bounds) (seen : Seen) (d : Declaration) : Type 0 where
+  pub room : seen.count (word_of d) < b.most (word_of d)
+  pub free : (not b.twice && is_known seen d) ≡ false
+  pub terms : terms_of d ≤ b.terms - seen.terms
 
-pub joined_input : (before : SoFar) (d : InputDecl) (p : Program) (n : ℕ) → joined (add_input before d) p n ≡ joined before (with_input d p) n
-joined_input before d p n = λ i. record { program = record before.program { inputs = append_assoc before.program.inputs (d ∷ []) p.inputs i; nodes = before.program.nodes ++ p.nodes }; terms = before.terms + n }
+pub total-append : (f : Declaration → ℕ) (xs ys : List Declaration) → total f (xs ++ ys) ≡ total f xs + total f ys
+total-append f [] ys = omega arith
+total-append f (x ∷ xs) ys = let e = total-append f xs ys in omega (arith, e)
 
-pub joined_node : (before : SoFar) (d : NodeDecl) (m : ℕ) (p : Program) (n : ℕ) → joined (add_node before d m) p n ≡ joined before (with_node d p) (m + n)
-joined_node before d m p n = λ i. record { program = record before.program { inputs = before.program.inputs ++ p.inputs; nodes = append_assoc before.program.nodes (d ∷ []) p.nodes i }; terms = (let e : before.terms + m + n ≡ before.terms + (m + n) = omega arith in e) i }
+one_is : (w : DeclWord) (d : Declaration) → (one_of w d ≡ 0) ⊎ ((w ≡ word_of d) × (one_of w d ≡ 1))
+one_is decl.Input (Input d) = inr (refl, refl)
+one_is decl.Input (Pool d) = inl refl
+one_is decl.Input (Client d) = inl refl
+one_is decl.Input (Worker d) = inl refl
+one_is decl.Input (Op d) = inl refl
+one_is decl.Input (Node d n) = inl refl
+one_is decl.Pool (Input d) = inl refl
+one_is decl.Pool (Pool d) = inr (refl, refl)
+one_is decl.Pool (Client d) = inl refl
+one_is decl.Pool (Worker d) = inl refl
+one_is decl.Pool (Op d) = inl refl
+one_is decl.Pool (Node d n) = inl refl
+one_is decl.Client (Input d) = inl refl
+one_is decl.Client (Pool d) = inl refl
+one_is decl.Client (Client d) = inr (refl, refl)
+one_is decl.Client (Worker d) = inl refl
+one_is decl.Client (Op d) = inl refl
+one_is decl.Client (Node d n) = inl refl
+one_is decl.Worker (Input d) = inl refl
+one_is decl.Worker (Pool d) = inl refl
+one_is decl.Worker (Client d) = inl refl
+one_is decl.Worker (Worker d) = inr (refl, refl)
+one_is decl.Worker (Op d) = inl refl
+one_is decl.Worker (Node d n) = inl refl
+one_is decl.Op (Input d) = inl refl
+one_is decl.Op (Pool d) = inl refl
+one_is decl.Op (Client d) = inl refl
+one_is decl.Op (Worker d) = inl refl
+one_is decl.Op (Op d) = inr (refl, refl)
+one_is decl.Op (Node d n) = inl refl
+one_is decl.Node (Input d) = inl refl
+one_is decl.Node (Pool d) = inl refl
+one_is decl.Node (Client d) = inl refl
+one_is decl.Node (Worker d) = inl refl
+one_is decl.Node (Op d) = inl refl
+one_is decl.Node (Node d n) = inr (refl, refl)
 
--- within the bounds, and no name twice unless it may be
-pub record Sound (b : Bounds) (x : SoFar) : Type 0 where
-  pub inputs : length x.program.inputs ≤ b.inputs
-  pub nodes : length x.program.nodes ≤ b.nodes
-  pub terms : x.terms ≤ b.terms
-  pub inputs_once : b.twice_inputs ≡ false → Once (input_names x.program)
-  pub nodes_once : b.twice_nodes ≡ false → Once (node_names x.program)
+known_is : (v : ℕ) (before : List Declaration) (d : Declaration) → is_known (seen_in v before) d ≡ list_any (λ e. same_name e d) before
+known_is v before (Input d) = refl
+known_is v before (Pool d) = refl
+known_is v before (Client d) = refl
+known_is v before (Worker d) = refl
+known_is v before (Op d) = refl
+known_is v before (Node d n) = refl
 
-names_added : {A : Type 0} (f : A → List ℕ) (xs : List A) (d : A) → Once (map f xs ++ f d ∷ []) → Once (map f (xs ++ d ∷ []))
-names_added f xs d h = rw (map_append f xs (d ∷ [])) h
+or_false : (a b : Bool) → (a || b) ≡ false → (a ≡ false) × (b ≡ false)
+or_false true b e = absurd cc
+or_false false b e = (refl, e)
 
-pub sound_input : (b : Bounds) (before : SoFar) (d : InputDecl) → Sound b before → length before.program.inputs < b.inputs → is_taken b.twice_inputs (input_names before.program) d.name ≡ false → Sound b (add_input before d)
-sound_input b before d s room free = record {
-  inputs = rw (length-append before.program.inputs (d ∷ [])) (omega (arith, room));
-  nodes = s.nodes;
-  terms = s.terms;
-  inputs_once = λ e. names_added (λ x. x.name) before.program.inputs d (once_more (input_names before.program) d.name (s.inputs_once e) (taken_new b.twice_inputs (input_names before.program) d.name free e));
-  nodes_once = s.nodes_once;
+none_any : (test : Declaration → Bool) (xs : List Declaration) → list_any test xs ≡ false → AllByRecursion (λ x. test x ≡ false) xs
+none_any test [] e = tt
+none_any test (x ∷ xs) e = let p = or_false (test x) (list_any test xs) e in (p.0, none_any test xs p.1)
+
+any_none : (test : Declaration → Bool) (xs : List Declaration) → AllByRecursion (λ x. test x ≡ false) xs → list_any test xs ≡ false
+any_none test [] h = refl
+any_none test (x ∷ xs) (h, more) = rw h (any_none test xs more)
+
+add_all : (P : Declaration → Type 0) (xs : List Declaration) (d : Declaration) → AllByRecursion P xs → P d → AllByRecursion P (xs ++ d ∷ [])
+add_all P [] d h p = (p, tt)
+add_all P (x ∷ xs) d (h, more) p = (h, add_all P xs d more p)
+
+in_all : (P : Declaration → Type 0) (xs : List Declaration) (d : Declaration) (ys : List Declaration) → AllByRecursion P (xs ++ d ∷ ys) → P d
+in_all P [] d ys (h, more) = h
+in_all P (x ∷ xs) d ys (h, more) = in_all P xs d ys more
+
+distinct_more : (xs : List Declaration) (d : Declaration) → IsDistinct same_name xs → AllByRecursion (λ x. same_name x d ≡ false) xs → IsDistinct same_name (xs ++ d ∷ [])
+unfolding IsDistinct
+distinct_more [] d h new = (tt, tt)
+distinct_more (x ∷ xs) d (apart, h) (other, new) = (add_all (λ y. same_name x y ≡ false) xs d apart other, distinct_more xs d h new)
+
+distinct_new : (xs : List Declaration) (d : Declaration) (ys : List Declaration) → IsDistinct same_name (xs ++ d ∷ ys) → AllByRecursion (λ x. same_name x d ≡ false) xs
+unfolding IsDistinct
+distinct_new [] d ys h = tt
+distinct_new (x ∷ xs) d ys (apart, h) = (in_all (λ y. same_name x y ≡ false) xs d ys apart, distinct_new xs d ys h)
+
+free_of : (twice known : Bool) → (twice ≡ false → known ≡ false) → (not twice && known) ≡ false
+free_of true known h = refl
+free_of false known h = h refl
+
+of_free : (twice known : Bool) → (not twice && known) ≡ false → twice ≡ false → known ≡ false
+of_free true known e h = absurd cc
+of_free false known e h = e
+
+few_more : (w v : DeclWord) (n k most : ℕ) → (k ≡ 0) ⊎ ((w ≡ v) × (k ≡ 1)) → n ≤ most → (w ≡ v → n < most) → n + (k + 0) ≤ most
+few_more w v n k most (inl none) few room = omega (arith, none, few)
+few_more w v n k most (inr (is, one)) few room = let r = room is in omega (arith, one, r)
+
+-- one more that fits
+pub sound_more : (b : Bounds) (v : ℕ) (before : List Declaration) (d : Declaration) → Sound b before → Fits b (seen_in v before) d → Sound b (before ++ d ∷ [])
+sound_more b v before d s f = record {
+  few = λ w. rw (total-append (one_of w) before (d ∷ [])) (few_more w (word_of d) (count_of w before) (one_of w d) (b.most w) (one_is w d) (s.few w) (λ is. rw is f.room));
+  terms = let few = s.terms in let more = f.terms in let e = total-append terms_of before (d ∷ []) in omega (arith, few, more, e);
+  apart = λ once. distinct_more before d (s.apart once) (none_any (λ e. same_name e d) before (sym (known_is v before d) ∙ of_free b.twice (is_known (seen_in v before) d) f.free once));
 }
 
-pub sound_node : (b : Bounds) (before : SoFar) (d : NodeDecl) (m : ℕ) → Sound b before → length before.program.nodes < b.nodes → is_taken b.twice_nodes (node_names before.program) d.name ≡ false → m ≤ b.terms - before.terms → Sound b (add_node before d m)
-sound_node b before d m s room free fits = record {
-  inputs = s.inputs;
-  nodes = rw (length-append before.program.nodes (d ∷ [])) (omega (arith, room));
-  terms = let few = s.terms in omega (arith, few, fits);
-  inputs_once = s.inputs_once;
-  nodes_once = λ e. names_added (λ x. x.name) before.program.nodes d (once_more (node_names before.program) d.name (s.nodes_once e) (taken_new b.twice_nodes (node_names before.program) d.name free e));
+one_word : (d : Declaration) → one_of (word_of d) d ≡ 1
+one_word (Input d) = refl
+one_word (Pool d) = refl
+one_word (Client d) = refl
+one_word (Worker d) = refl
+one_word (Op d) = refl
+one_word (Node d n) = refl
+
+-- where a declaration is the next, it fits
+pub next_fits : (b : Bounds) (v : ℕ) (before : List Declaration) (d : Declaration) (ds : List Declaration) → Sound b (before ++ d ∷ ds) → Fits b (seen_in v before) d
+next_fits b v before d ds s = record {
+  room = let few = s.few (word_of d) in let e = total-append (one_of (word_of d)) before (d ∷ ds) in let one = one_word d in omega (arith, few, e, one);
+  free = free_of b.twice (is_known (seen_in v before) d) (λ once. known_is v before d ∙ any_none (λ e. same_name e d) before (distinct_new before d ds (s.apart once)));
+  terms = let few = s.terms in let e = total-append terms_of before (d ∷ ds) in omega (arith, few, e);
 }
-
--- where a declaration is the next, there is room for it, and its name is new
-names_before : {A : Type 0} (f : A → List ℕ) (xs : List A) (d : A) (ys : List A) → Once (map f (xs ++ d ∷ ys)) → Once (map f xs ++ f d ∷ map f ys)
-names_before f xs d ys h = rw (sym (map_append f xs (d ∷ ys))) h
-
-pub room_for_input : (b : Bounds) (before : SoFar) (d : InputDecl) (p : Program) (n : ℕ) → Sound b (joined before (with_input d p) n) → (length before.program.inputs < b.inputs) × (is_taken b.twice_inputs (input_names before.program) d.name ≡ false)
-room_for_input b before d p n s =
-    let few : length (before.program.inputs ++ d ∷ p.inputs) ≤ b.inputs = s.inputs in
-    let sum = length-append before.program.inputs (d ∷ p.inputs) in
-    (omega (arith, few, sum), not_taken b.twice_inputs (input_names before.program) d.name (map (λ x. x.name) p.inputs) (λ e. names_before (λ x. x.name) before.program.inputs d p.inputs (s.inputs_once e)))
-
-pub room_for_node : (b : Bounds) (before : SoFar) (d : NodeDecl) (p : Program) (m n : ℕ) → Sound b (joined before (with_node d p) (m + n)) → (length before.program.nodes < b.nodes) × (is_taken b.twice_nodes (node_names before.program) d.name ≡ false) × (m ≤ b.terms - before.terms)
-room_for_node b before d p m n s =
-    let few : length (before.program.nodes ++ d ∷ p.nodes) ≤ b.nodes = s.nodes in
-    let sum = length-append before.program.nodes (d ∷ p.nodes) in
-    let terms : before.terms + (m + n) ≤ b.terms = s.terms in
-    (omega (arith, few, sum), not_taken b.twice_nodes (node_names before.program) d.name (map (λ x. x.name) p.nodes) (λ e. names_before (λ x. x.name) before.program.nodes d p.nodes (s.nodes_once e)), omega (arith, terms))

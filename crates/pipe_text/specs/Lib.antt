@@ -1,7 +1,10 @@
 pub mod Words
+pub mod LimitTable
 pub mod Grammar
+pub mod FileGrammar
 pub mod Standing
 pub mod Readers
 pub mod TermReading
 pub mod FileReading
 pub mod Looking
+pub mod Firsts

@@ -1,8 +1,8 @@
 -- Readers of tokens from left to right, with one token in hand.
-use Rattle.std.specs.Prelude.{◌≡◌, ℕ, ◌==◌, List, [], ◌∷◌, Result, Ok, Err, if◌then◌else◌, Option, Some, None}
+use Rattle.std.specs.Prelude.{◌≡◌, ℕ, ◌==◌, Bool, true, false, List, [], ◌∷◌, Result, Ok, Err, if◌then◌else◌, Option, Some, None}
 use Rattle.std.specs.Str.{bytes_eq}
 use Rattle.value_core.specs.declared.token.Token.{Token}
-use Rattle.value_core.specs.declared.token.Token.TheVariants.{Name, Number, Mark}
+use Rattle.value_core.specs.declared.token.Token.TheVariants.{Name, Words, Mark, LongText}
 use Rattle.value_core.specs.declared.lexing.Placed.{Placed}
 use Rattle.value_core.specs.declared.lexing.Stop.{Stop}
 use Rattle.value_core.specs.declared.lexing.Stop.TheVariants as stop
@@ -66,6 +66,15 @@ go (Ok r) place s ts = r s ts
 abbrev pub branch : {A : Type 0} → (Token → Choice A) → Reader A
 branch table s ts = token_at s ts >>= λ t. go (table t.0.token) t.0.place s t.1
 
+-- whether the token in hand passes a test
+abbrev pub next_passes : (Token → Bool) → List Placed → Bool
+next_passes test [] = false
+next_passes test (t ∷ ts) = test t.token
+
+-- by a test of the token in hand, which is left
+abbrev pub peek : {A : Type 0} → (Token → Bool) → Reader A → Reader A → Reader A
+peek test r q s ts = if next_passes test ts then r s ts else q s ts
+
 -- the value where the file ends, or a reader where a token is left
 abbrev pub unless_ended : {A : Type 0} → A → Reader A → Reader A
 unless_ended a r (stop.Lex place) [] = Err (Lex place)
@@ -80,15 +89,6 @@ mark_choice c k = Err Syntax
 -- this mark
 abbrev pub mark_at : ℕ → Reader (Unit {0})
 mark_at c = branch (mark_choice c)
-
--- this number goes on with nothing
-abbrev pub number_choice : ℕ → Token → Choice (Unit {0})
-number_choice n (Number m) = if m == n then Ok (give tt) else Err Syntax
-number_choice n k = Err Syntax
-
--- this number
-abbrev pub number_at : ℕ → Reader (Unit {0})
-number_at n = branch (number_choice n)
 
 -- how it goes on behind a word that was looked up
 abbrev pub chosen : {W A : Type 0} → (W → Choice A) → Option W → Choice A
@@ -111,3 +111,18 @@ only letters n = if bytes_eq n letters then Some tt else None
 -- the keyword with these letters
 abbrev pub keyword_at : List ℕ → Reader (Unit {0})
 keyword_at letters = word_at (only letters)
+
+-- whether a token is the keyword with these letters
+abbrev pub is_keyword : List ℕ → Token → Bool
+is_keyword letters (Name n) = bytes_eq n letters
+is_keyword letters k = false
+
+-- whether a token is a string
+abbrev pub is_string : Token → Bool
+is_string (Words t) = true
+is_string LongText = true
+is_string k = false
+
+-- a reader behind a keyword where that stands there, else another
+abbrev pub if_keyword : {A : Type 0} → List ℕ → Reader A → Reader A → Reader A
+if_keyword letters r q = peek (is_keyword letters) (seq (keyword_at letters) (λ u. r)) q

@@ -1,255 +1,287 @@
 //! Declarations, up to the end of the file.
-ghost use Rattle.std.specs.Prelude.{◌≡◌, ◌+◌, ◌≤◌, ◌<◌, ◌||◌, List, [], ℕ, length, IfOk, OnOk};
-ghost use Rattle.std.specs.Str.{bytes_eq};
-ghost use Rattle.std.specs.Ordering.{nat_cmp};
-ghost use Rattle.std.specs.Cmp.Lexicographic.{slice_cmp};
-ghost use Rattle.std.specs.BTreeSet.{contains};
+ghost use Rattle.std.specs.Prelude.{◌≡◌, ◌+◌, ◌-◌, ◌≤◌, ◌||◌, List, [], ℕ, IfOk, OnOk};
+ghost use Rattle.pipe_text.specs.declared.words.DeclWord.{DeclWord};
 ghost use Rattle.pipe_text.specs.Readers.{Gives};
-ghost use Rattle.pipe_text.specs.Standing.{file_limits};
-ghost use Rattle.pipe_text.specs.Grammar.{unwatched};
-ghost use Rattle.pipe_text.specs.FileReading.{file_bounds, declared_at, add_input, add_node, value_at, input_at, node_at, decl_at, none_so_far, all_at, file_at};
-ghost use Rattle.pipe_text.specs.Looking.{Kept};
+ghost use Rattle.pipe_text.specs.Standing.{limit_of, terms_of, program_of};
+ghost use Rattle.pipe_text.specs.FileReading.{file_bounds, declared_at, paired_at, version_at, rest_at, decl_at, all_at, made, program_at};
+ghost use Rattle.pipe_text.specs.Looking.{count_in, named_in, is_named, paired_in, seen_of, word_of, name_of, with_declaration, Knows};
 
+use crate::declaration::Declaration;
+use crate::details::{take_op, take_value};
 use crate::fault::{Fault, LimitName, Unread};
-use crate::limits::{DEPTH_LIMIT, INPUT_LIMIT, NAME_LIMIT, NODE_LIMIT, TERM_LIMIT};
+use crate::names::Names;
 use crate::taking::{
-    limit_at, syntax_at, take_decl_word, take_keyword, take_number, take_text, take_token,
+    limit_at, syntax_at, take_keyword, take_name, take_number, take_token, take_word,
 };
 use crate::terms::take_term;
-use crate::words::DeclWord;
+use crate::words::{DeclWord, OpWord};
+use op_keys::{ClientDecl, PoolDecl, WorkerDecl};
 use std::alloc::{AllocError, Global};
-use std::collections::BTreeSet;
-use term_core::{InputDecl, NodeDecl, Program, Term};
-use value_core::{ListOf, Placed, Stop, Text, Token, Value};
+use term_core::{InputDecl, NodeDecl, Program};
+use value_core::{ListOf, Placed, Stop, Text, Token};
 
-/// What was declared so far, and of how many terms its nodes are made.
+/// What was declared so far, with the names, to look them up, and the number of terms.
 #[derive(Drop)]
-pub struct SoFar {
+pub struct Declarations {
     pub program: Program,
+    pub names: Names,
     pub terms: u32,
 }
 
-/// What was declared so far, with the names of each kind in a set, to look them up.
-#[derive(Drop)]
-pub struct Declarations {
-    pub so_far: SoFar,
-    pub inputs: BTreeSet<Text>,
-    pub nodes: BTreeSet<Text>,
-}
-
-fn no_declarations(alloc: Global) -> Declarations
-    ensures nothing { result.so_far ≡ none_so_far }
-    ensures kept { Kept result }
+/// The limit on declarations that begin with a word.
+fn limit_of(word: DeclWord) -> LimitName
+    ensures { result ≡ limit_of word }
 {
-    let program = Program {
-        version: 1,
-        inputs: ListOf::new(alloc),
-        pools: ListOf::new(alloc),
-        clients: ListOf::new(alloc),
-        workers: ListOf::new(alloc),
-        ops: ListOf::new(alloc),
-        nodes: ListOf::new(alloc),
-    };
-    Declarations {
-        so_far: SoFar { program, terms: 0 },
-        inputs: BTreeSet::new(alloc),
-        nodes: BTreeSet::new(alloc),
+    match word {
+        DeclWord::Input => LimitName::Inputs,
+        DeclWord::Pool => LimitName::Pools,
+        DeclWord::Client => LimitName::Clients,
+        DeclWord::Worker => LimitName::Workers,
+        DeclWord::Op => LimitName::Ops,
+        DeclWord::Node => LimitName::Nodes,
     }
 }
 
-/// The name of a declaration, with room for `room` more of its kind, of at most `most`, where
-/// `seen` has those before it.
+impl Declarations {
+    fn new(alloc: Global, version: u32) -> Declarations
+        ensures { Knows version [] result }
+    {
+        let program = Program {
+            version,
+            inputs: ListOf::new(alloc),
+            pools: ListOf::new(alloc),
+            clients: ListOf::new(alloc),
+            workers: ListOf::new(alloc),
+            ops: ListOf::new(alloc),
+            nodes: ListOf::new(alloc),
+        };
+        Declarations {
+            program,
+            names: Names::new(alloc),
+            terms: 0,
+        }
+    }
+
+    /// How many declarations begin with a word.
+    fn count(&self, word: DeclWord) -> usize
+        ensures { result ≡ count_in self.now.program word }
+    {
+        match word {
+            DeclWord::Input => self.program.inputs.len(),
+            DeclWord::Pool => self.program.pools.len(),
+            DeclWord::Client => self.program.clients.len(),
+            DeclWord::Worker => self.program.workers.len(),
+            DeclWord::Op => self.program.ops.len(),
+            DeclWord::Node => self.program.nodes.len(),
+        }
+    }
+
+    /// Whether a client of this name and pool is declared. At most 64 are, so they are looked
+    /// through.
+    fn has_client(&self, name: &Text, pool: &Text) -> bool
+        ensures { result ≡ paired_in self.now.program name.now pool.now }
+    {
+        self.program
+            .clients
+            .as_slice()
+            .iter()
+            .any(|client| client.name.is(name) && client.pool.is(pool))
+    }
+}
+
+/// Adds a declaration to a program, behind the others of its kind.
+fn put(program: &mut Program, decl: Declaration) -> Result<(), AllocError>
+    ensures { OnOk result (program.new ≡ with_declaration program.old decl) }
+{
+    match decl {
+        Declaration::Input(input) => program.inputs.push(input),
+        Declaration::Pool(pool) => program.pools.push(pool),
+        Declaration::Client(client) => program.clients.push(client),
+        Declaration::Worker(worker) => program.workers.push(worker),
+        Declaration::Op(op) => program.ops.push(op),
+        Declaration::Node(node, _) => program.nodes.push(node),
+    }
+}
+
+/// Notes the name of a declaration.
+fn note(alloc: Global, names: &mut Names, decl: &Declaration) -> Result<(), AllocError>
+    ensures { OnOk result ((w : DeclWord) (n : List ℕ) → named_in names.new w n ≡ (is_named (word_of decl.now) (name_of decl.now) w n || named_in names.old w n)) }
+{
+    let name = decl.name().copy(alloc)?;
+    names.add(decl.word(), name)
+}
+
+/// The name of a declaration that begins with this word.
 fn take_declared<'a>(
     alloc: Global,
-    what: LimitName,
-    most: u64,
-    room: u64,
-    seen: &BTreeSet<Text>,
+    word: DeclWord,
+    it: &Declarations,
     stop: Stop,
     tokens: &'a [Placed],
 ) -> Result<(Text, &'a [Placed]), Unread>
-    ensures gives { Gives (λ x. (x.0, x.1.now)) result (declared_at file_limits what most room (λ n. contains (slice_cmp nat_cmp) seen.now n) stop tokens.now) }
-    ensures room { IfOk result (λ x. 0 < room) }
+    ensures { Gives (λ x. (x.0, x.1.now)) result (declared_at file_bounds word (seen_of it.now) stop tokens.now) }
 {
     let (token, rest) = take_token(stop, tokens)?;
+    let what = limit_of(word);
+    let is_full = it.count(word) as u64 >= what.number();
     match &token.token {
         Token::Name(name) => {
-            if room == 0 {
-                Err(limit_at(what, most, token.place))
-            } else if seen.contains(name) {
-                Err(Unread::At(Fault::Duplicate(name.copy(alloc)?, token.place)))
+            if is_full {
+                Err(limit_at(what, token.place))
+            } else if it.names.has(word, name) {
+                let name = name.copy(alloc)?;
+                Err(Unread::At(Fault::Duplicate(name, token.place)))
             } else {
                 Ok((name.copy(alloc)?, rest))
             }
         }
         Token::LongName => {
-            if room == 0 {
-                Err(limit_at(what, most, token.place))
+            if is_full {
+                Err(limit_at(what, token.place))
             } else {
-                Err(limit_at(LimitName::Name, NAME_LIMIT, token.place))
+                Err(limit_at(LimitName::Name, token.place))
             }
         }
         _ => Err(syntax_at(token.place)),
     }
 }
 
-/// Adds a name: then it and those before it were seen, and no others.
-fn see(alloc: Global, seen: &mut BTreeSet<Text>, name: &Text) -> Result<(), AllocError>
-    ensures { OnOk result ((n : List ℕ) → contains (slice_cmp nat_cmp) seen.new n ≡ (bytes_eq name.now n || contains (slice_cmp nat_cmp) seen.old n)) }
-{
-    seen.insert(name.copy(alloc)?)?;
-    Ok(())
-}
-
-/// Declares one more input.
-fn declare_input(
+/// The pool of a client.
+fn take_paired<'a>(
     alloc: Global,
-    it: &mut Declarations,
-    name: Text,
-    value: Value,
-) -> Result<(), AllocError>
-    requires kept { Kept it.now }
-    requires room { length it.now.so_far.program.inputs < 256 }
-    ensures added { OnOk result (it.new.so_far ≡ add_input it.old.so_far (unwatched name value)) }
-    ensures kept { OnOk result (Kept it.new) }
-{
-    see(alloc, &mut it.inputs, &name)?;
-    let input = InputDecl {
-        name,
-        value,
-        watch: None,
-    };
-    it.so_far.program.inputs.push(input)
-}
-
-/// Declares one more node, of so many terms.
-fn declare_node(
-    alloc: Global,
-    it: &mut Declarations,
-    name: Text,
-    term: Term,
-    used: u32,
-) -> Result<(), AllocError>
-    requires kept { Kept it.now }
-    requires room { (length it.now.so_far.program.nodes < 1000) × (it.now.so_far.terms + used ≤ 4096) }
-    ensures added { OnOk result (it.new.so_far ≡ add_node it.old.so_far (record { name = name; term = term }) used) }
-    ensures kept { OnOk result (Kept it.new) }
-{
-    see(alloc, &mut it.nodes, &name)?;
-    it.so_far.terms += used;
-    it.so_far.program.nodes.push(NodeDecl { name, term })
-}
-
-/// The value of an input, behind its name.
-#[tactic(auto, unfolding(crate::specs::FileReading::value_at))]
-fn take_value(alloc: Global, stop: Stop, tokens: &[Placed]) -> Result<(Value, &[Placed]), Unread>
-    ensures { Gives (λ x. (x.0, x.1.now)) result (value_at file_limits stop tokens.now) }
-{
-    let rest = take_keyword("text", stop, tokens)?;
-    let (text, rest) = take_text(alloc, stop, rest)?;
-    Ok((Value::Words(text), rest))
-}
-
-/// An input behind its keyword.
-#[tactic(auto, unfolding(crate::specs::FileReading::input_at))]
-fn take_input<'a>(
-    alloc: Global,
-    it: &mut Declarations,
+    it: &Declarations,
+    name: &Text,
     stop: Stop,
     tokens: &'a [Placed],
-) -> Result<&'a [Placed], Unread>
-    requires { Kept it.now }
-    ensures gives { Gives (λ x. (it.new.so_far, x.now)) result (input_at file_bounds it.old.so_far stop tokens.now) }
-    ensures kept { OnOk result (Kept it.new) }
+) -> Result<(Text, &'a [Placed]), Unread>
+    ensures { Gives (λ x. (x.0, x.1.now)) result (paired_at file_bounds (seen_of it.now) name.now stop tokens.now) }
 {
-    let room = INPUT_LIMIT - it.so_far.program.inputs.len() as u64;
-    let (name, rest) = take_declared(
-        alloc,
-        LimitName::Inputs,
-        INPUT_LIMIT,
-        room,
-        &it.inputs,
-        stop,
-        tokens,
-    )?;
-    let (value, rest) = take_value(alloc, stop, rest)?;
-    declare_input(alloc, it, name, value)?;
-    Ok(rest)
+    let (token, rest) = take_token(stop, tokens)?;
+    match &token.token {
+        Token::Name(pool) => {
+            if it.has_client(name, pool) {
+                let client = name.copy(alloc)?;
+                Err(Unread::At(Fault::Duplicate(client, token.place)))
+            } else {
+                Ok((pool.copy(alloc)?, rest))
+            }
+        }
+        Token::LongName => Err(limit_at(LimitName::Name, token.place)),
+        _ => Err(syntax_at(token.place)),
+    }
 }
 
-/// A node behind its keyword.
-#[tactic(auto, unfolding(crate::specs::FileReading::node_at))]
-fn take_node<'a>(
+/// A declaration behind its word.
+#[tactic(auto, unfolding(crate::specs::FileReading::rest_at))]
+fn take_rest<'a>(
     alloc: Global,
-    it: &mut Declarations,
+    word: DeclWord,
+    it: &Declarations,
     stop: Stop,
     tokens: &'a [Placed],
-) -> Result<&'a [Placed], Unread>
-    requires { Kept it.now }
-    ensures gives { Gives (λ x. (it.new.so_far, x.now)) result (node_at file_bounds it.old.so_far stop tokens.now) }
-    ensures kept { OnOk result (Kept it.new) }
+) -> Result<(Declaration, &'a [Placed]), Unread>
+    ensures gives { Gives (λ x. (x.0, x.1.now)) result (rest_at file_bounds (seen_of it.now) word stop tokens.now) }
+    ensures terms { IfOk result (λ x. terms_of x.0 ≤ 4096 - it.now.terms) }
 {
-    let room = NODE_LIMIT - it.so_far.program.nodes.len() as u64;
-    let (name, rest) = take_declared(
-        alloc,
-        LimitName::Nodes,
-        NODE_LIMIT,
-        room,
-        &it.nodes,
-        stop,
-        tokens,
-    )?;
-    let left = TERM_LIMIT as u32 - it.so_far.terms;
-    let (term, used, rest) = take_term(alloc, DEPTH_LIMIT as u8, left, stop, rest)?;
-    declare_node(alloc, it, name, term, used)?;
-    Ok(rest)
+    let (name, rest) = take_declared(alloc, word, it, stop, tokens)?;
+    match word {
+        DeclWord::Input => {
+            let (input, rest) = take_value(alloc, stop, rest)?;
+            let value = input.value;
+            let watch = input.watch;
+            Ok((Declaration::Input(InputDecl { name, value, watch }), rest))
+        }
+        DeclWord::Pool => {
+            let rest = take_keyword("hold", stop, rest)?;
+            let (hold, rest) = take_number(LimitName::Hold, stop, rest)?;
+            Ok((Declaration::Pool(PoolDecl { name, hold }), rest))
+        }
+        DeclWord::Client => {
+            let (pool, rest) = take_paired(alloc, it, &name, stop, rest)?;
+            let (rate, rest) = take_number(LimitName::Rate, stop, rest)?;
+            Ok((Declaration::Client(ClientDecl { name, pool, rate }), rest))
+        }
+        DeclWord::Worker => {
+            let (pool, rest) = take_name(alloc, stop, rest)?;
+            let (capacity, rest) = take_number(LimitName::Capacity, stop, rest)?;
+            let worker = WorkerDecl {
+                name,
+                pool,
+                capacity,
+            };
+            Ok((Declaration::Worker(worker), rest))
+        }
+        DeclWord::Op => {
+            let (kind, rest) = take_word::<OpWord>(stop, rest)?;
+            let (op, rest) = take_op(alloc, it.program.version, name, kind, stop, rest)?;
+            Ok((Declaration::Op(op), rest))
+        }
+        DeclWord::Node => {
+            let left = (LimitName::Terms.number() as u32).saturating_sub(it.terms);
+            let depth = LimitName::Depth.number() as u8;
+            let (term, used, rest) = take_term(alloc, depth, left, stop, rest)?;
+            Ok((Declaration::Node(NodeDecl { name, term }, used), rest))
+        }
+    }
 }
 
 #[tactic(auto, unfolding(crate::specs::FileReading::decl_at))]
 fn take_decl<'a>(
     alloc: Global,
-    it: &mut Declarations,
+    it: &Declarations,
     stop: Stop,
     tokens: &'a [Placed],
-) -> Result<&'a [Placed], Unread>
-    requires { Kept it.now }
-    ensures gives { Gives (λ x. (it.new.so_far, x.now)) result (decl_at file_bounds it.old.so_far stop tokens.now) }
-    ensures kept { OnOk result (Kept it.new) }
+) -> Result<(Declaration, &'a [Placed]), Unread>
+    ensures gives { Gives (λ x. (x.0, x.1.now)) result (decl_at file_bounds (seen_of it.now) stop tokens.now) }
+    ensures terms { IfOk result (λ x. terms_of x.0 ≤ 4096 - it.now.terms) }
 {
-    let (word, rest) = take_decl_word(stop, tokens)?;
-    match word {
-        DeclWord::Input => take_input(alloc, it, stop, rest),
-        DeclWord::Node => take_node(alloc, it, stop, rest),
-    }
+    let (word, rest) = take_word::<DeclWord>(stop, tokens)?;
+    take_rest(alloc, word, it, stop, rest)
 }
 
 /// All declarations up to the end of the file.
-fn take_all(alloc: Global, stop: Stop, tokens: &[Placed]) -> Result<SoFar, Unread>
-    ensures { Gives (λ x. (x, [])) result (all_at file_bounds none_so_far stop tokens.now) }
+fn take_all(alloc: Global, version: u32, stop: Stop, tokens: &[Placed]) -> Result<Program, Unread>
+    ensures { Gives (λ p. p) result (made version (all_at file_bounds version [] stop tokens.now)) }
 {
-    let mut it = no_declarations(alloc);
+    let mut it = Declarations::new(alloc, version);
     let mut tokens = tokens;
     'declarations: while !tokens.is_empty() {
-        match take_decl(alloc, &mut it, stop, tokens) {
+        match take_decl(alloc, &it, stop, tokens) {
             Err(fault) => return Err(fault),
-            Ok(rest) => tokens = rest,
+            Ok((decl, rest)) => {
+                note(alloc, &mut it.names, &decl)?;
+                it.terms += decl.terms();
+                put(&mut it.program, decl)?;
+                tokens = rest;
+            }
         }
     }
     match stop {
         Stop::Lex(place) => Err(Unread::At(Fault::Lex(place))),
         Stop::End(_) => {
-            let Declarations { so_far, .. } = it;
-            Ok(so_far)
+            let Declarations { program, .. } = it;
+            Ok(program)
         }
     }
 }
 
+fn take_version(stop: Stop, tokens: &[Placed]) -> Result<(u32, &[Placed]), Unread>
+    ensures { Gives (λ x. (x.0, x.1.now)) result (version_at stop tokens.now) }
+{
+    let (token, rest) = take_token(stop, tokens)?;
+    match &token.token {
+        Token::Number(1) => Ok((1, rest)),
+        Token::Number(2) => Ok((2, rest)),
+        _ => Err(syntax_at(token.place)),
+    }
+}
+
 /// The tokens of a whole file.
-#[tactic(auto, unfolding(crate::specs::FileReading::file_at))]
-pub(crate) fn take_file(alloc: Global, stop: Stop, tokens: &[Placed]) -> Result<SoFar, Unread>
-    ensures { Gives (λ x. (x, [])) result (file_at file_bounds stop tokens.now) }
+#[tactic(auto, unfolding(crate::specs::FileReading::program_at))]
+pub(crate) fn take_file(alloc: Global, stop: Stop, tokens: &[Placed]) -> Result<Program, Unread>
+    ensures { Gives (λ p. p) result (program_at file_bounds stop tokens.now) }
 {
     let rest = take_keyword("pipeline", stop, tokens)?;
-    let rest = take_number(1, stop, rest)?;
-    take_all(alloc, stop, rest)
+    let (version, rest) = take_version(stop, rest)?;
+    take_all(alloc, version, stop, rest)
 }

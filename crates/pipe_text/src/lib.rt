@@ -1,14 +1,17 @@
-//! Pipeline files: reading the program that a file's bytes stand for.
+//! Pipeline files: reading the program that a file's bytes stand for, or the first fault.
 //!
-//! The grammar and its limits stand in specs/Grammar.antt and specs/Standing.antt, as relations
-//! between tokens and programs. `taking`, `terms` and `declarations` are a plain recursive descent
-//! over the tokens, each proved equal to a reader on lists, which finds the first fault and its
-//! place.
+//! The grammar and its limits stand in specs/Grammar.antt, specs/FileGrammar.antt and
+//! specs/Standing.antt, as relations between tokens and programs. `taking`, `literals`, `terms`,
+//! `details` and `declarations` are a plain recursive descent over the tokens, each function proved
+//! equal to a reader on lists, which finds the first fault and its place.
 #![tactic(auto)]
 
+mod declaration;
 mod declarations;
+mod details;
 mod fault;
-mod limits;
+mod literals;
+mod names;
 mod pipeline;
 mod taking;
 mod terms;
@@ -16,5 +19,5 @@ mod terms;
 mod tests;
 mod words;
 
-pub use fault::ReadFault;
+pub use fault::{LimitName, ReadFault};
 pub use pipeline::read_pipeline;

@@ -1,13 +1,15 @@
 //! A whole file.
-ghost use Rattle.std.specs.Prelude.{IfOk};
+ghost use Rattle.std.specs.Prelude.{◌≡◌, IfOk, IfErr};
 ghost use Rattle.term_core.specs.declared.program.Program.{Program};
-ghost use Rattle.pipe_text.specs.Standing.{StandsFor, Reads};
+ghost use Rattle.term_core.specs.Limits.{IsWithinLimits};
 ghost use Rattle.pipe_text.specs.Readers.{Gives};
-ghost use Rattle.pipe_text.specs.FileReading.{read_of};
+ghost use Rattle.pipe_text.specs.Standing.{StandsFor, Reads};
+ghost use Rattle.pipe_text.specs.Firsts.{IsRightAnswer};
+ghost use Rattle.pipe_text.specs.FileReading.{read_of, told, pipeline_of, GivesRead};
 
-use crate::declarations::{SoFar, take_file};
+use crate::declarations::take_file;
 use crate::fault::{Fault, LimitName, ReadFault, Unread};
-use crate::limits::FILE_LIMIT;
+use crate::taking::limit_at;
 use std::alloc::Global;
 use term_core::Program;
 use value_core::{Tokens, tokens_of};
@@ -17,27 +19,45 @@ use value_core::{Tokens, tokens_of};
 fn read_file(alloc: Global, bytes: &[u8]) -> Result<Program, Unread>
     ensures { Gives (λ p. p) result (read_of bytes.now) }
 {
-    if FILE_LIMIT < bytes.len() as u64 {
-        return Err(Unread::At(Fault::Limit(LimitName::File, FILE_LIMIT, 0)));
+    if LimitName::File.number() < bytes.len() as u64 {
+        return Err(limit_at(LimitName::File, 0));
     }
     let Tokens { tokens, stop } = tokens_of(alloc, bytes)?;
-    let SoFar { program, .. } = take_file(alloc, stop, tokens.as_slice())?;
-    Ok(program)
+    take_file(alloc, stop, tokens.as_slice())
 }
 
-/// The program that the bytes of a pipeline file stand for.
+/// A fault as the caller sees it.
+fn told(fault: Fault) -> ReadFault
+    ensures { result ≡ told fault }
+{
+    match fault {
+        Fault::Lex(place) => ReadFault::Lex(place),
+        Fault::Syntax(place) => ReadFault::Syntax(place),
+        Fault::Limit(what, number, place) => ReadFault::Limit(what, number, place),
+        Fault::Duplicate(name, place) => ReadFault::Duplicate(name, place),
+    }
+}
+
+/// The program that the bytes of a pipeline file stand for, or the first fault in them.
 ///
-/// By the two clauses together it is refused exactly where the bytes stand for no program, and
-/// they stand for one program at most.
+/// By `found` and `all` a file is refused exactly where it stands for no program, and stands for
+/// one program at most.
+#[tactic(auto, unfolding(crate::specs::FileReading::pipeline_of))]
 pub fn read_pipeline(alloc: Global, bytes: &[u8]) -> Result<Program, ReadFault>
     // What is read stands there.
     ensures found { IfOk result (λ p. StandsFor bytes.now p) }
     // What stands there is read, unless memory runs out.
     ensures all { (p : Program) → StandsFor bytes.now p → Reads result p }
+    // What is read is within the limits.
+    ensures within { IfOk result (λ p. IsWithinLimits p) }
+    // A fault is what it says.
+    ensures fault { IfErr result (λ f. IsRightAnswer bytes.now f) }
+    // The answer is that of a reader with one token in hand, which stops at the first fault.
+    ensures exact { GivesRead result (pipeline_of bytes.now) }
 {
     match read_file(alloc, bytes) {
         Ok(program) => Ok(program),
         Err(Unread::NoMemory) => Err(ReadFault::NoMemory),
-        Err(Unread::At(_)) => Err(ReadFault::Refused),
+        Err(Unread::At(fault)) => Err(told(fault)),
     }
 }

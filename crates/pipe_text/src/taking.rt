@@ -1,15 +1,16 @@
 //! Single tokens, taken from the front.
-ghost use Rattle.std.specs.Prelude.{◌≡◌, ◌<◌, IfOk, codes};
-ghost use Rattle.pipe_text.specs.Readers.{Gives, fault_of, token_at, mark_at, number_at, word_at, keyword_at};
-ghost use Rattle.pipe_text.specs.Words.{decl_word, body_word};
+ghost use Rattle.std.specs.Prelude.{◌≡◌, ◌<◌, ◌≤◌, IfOk};
+ghost use Rattle.value_core.specs.Literals.{is_mark_of};
+ghost use Rattle.pipe_text.specs.LimitTable.{number_of};
+ghost use Rattle.pipe_text.specs.Readers.{Gives, fault_of, token_at, mark_at, word_at, keyword_at, is_keyword, is_string, next_passes};
 ghost use Rattle.pipe_text.specs.Standing.{file_limits};
-ghost use Rattle.pipe_text.specs.TermReading.{name_at, text_at, literal_at, open_at};
+ghost use Rattle.pipe_text.specs.TermReading.{beyond, name_at, text_at, number_at, room_at, open_at};
+ghost use Rattle.pipe_text.specs.FileReading.{any_number_at};
 
 use crate::fault::{Fault, LimitName, Unread};
-use crate::limits::{DEPTH_LIMIT, NAME_LIMIT, TERM_LIMIT, TEXT_LIMIT};
-use crate::words::{BodyWord, DeclWord, body_word_of, decl_word_of};
+use crate::words::Keyword;
 use std::alloc::Global;
-use value_core::{Placed, Stop, Text, Token, Value};
+use value_core::{Placed, Stop, Text, Token};
 
 /// The fault where a token is wanted and the tokens stop.
 pub(crate) fn stop_fault(stop: Stop) -> Unread
@@ -27,10 +28,10 @@ pub(crate) fn syntax_at(place: usize) -> Unread
     Unread::At(Fault::Syntax(place))
 }
 
-pub(crate) fn limit_at(name: LimitName, number: u64, place: usize) -> Unread
-    ensures { result ≡ Unread.At (Fault.Limit name number place) }
+pub(crate) fn limit_at(what: LimitName, place: usize) -> Unread
+    ensures { result ≡ Unread.At (beyond what place) }
 {
-    Unread::At(Fault::Limit(name, number, place))
+    Unread::At(Fault::Limit(what, what.number(), place))
 }
 
 pub(crate) fn take_token(stop: Stop, tokens: &[Placed]) -> Result<(&Placed, &[Placed]), Unread>
@@ -42,6 +43,42 @@ pub(crate) fn take_token(stop: Stop, tokens: &[Placed]) -> Result<(&Placed, &[Pl
     }
 }
 
+/// Whether this mark stands at the front.
+pub(crate) fn is_at_mark(mark: u8, tokens: &[Placed]) -> bool
+    ensures { result ≡ next_passes (is_mark_of mark) tokens.now }
+{
+    match tokens {
+        [] => false,
+        [first, ..] => match &first.token {
+            Token::Mark(m) => *m == mark,
+            _ => false,
+        },
+    }
+}
+
+/// Whether a string stands at the front.
+pub(crate) fn is_at_string(tokens: &[Placed]) -> bool
+    ensures { result ≡ next_passes is_string tokens.now }
+{
+    match tokens {
+        [] => false,
+        [first, ..] => matches!(&first.token, Token::Words(_) | Token::LongText),
+    }
+}
+
+/// Whether the keyword with these letters stands at the front.
+pub(crate) fn is_at_keyword(letters: &str, tokens: &[Placed]) -> bool
+    ensures { result ≡ next_passes (is_keyword letters.now) tokens.now }
+{
+    match tokens {
+        [] => false,
+        [first, ..] => match &first.token {
+            Token::Name(name) => name.as_str() == letters,
+            _ => false,
+        },
+    }
+}
+
 pub(crate) fn take_mark(mark: u8, stop: Stop, tokens: &[Placed]) -> Result<&[Placed], Unread>
     ensures { Gives (λ x. (tt, x.now)) result (mark_at mark stop tokens.now) }
 {
@@ -49,23 +86,6 @@ pub(crate) fn take_mark(mark: u8, stop: Stop, tokens: &[Placed]) -> Result<&[Pla
     match &token.token {
         Token::Mark(m) => {
             if *m == mark {
-                Ok(rest)
-            } else {
-                Err(syntax_at(token.place))
-            }
-        }
-        _ => Err(syntax_at(token.place)),
-    }
-}
-
-/// This number and no other.
-pub(crate) fn take_number(number: u64, stop: Stop, tokens: &[Placed]) -> Result<&[Placed], Unread>
-    ensures { Gives (λ x. (tt, x.now)) result (number_at number stop tokens.now) }
-{
-    let (token, rest) = take_token(stop, tokens)?;
-    match &token.token {
-        Token::Number(n) => {
-            if *n == number {
                 Ok(rest)
             } else {
                 Err(syntax_at(token.place))
@@ -96,6 +116,20 @@ pub(crate) fn take_keyword<'a>(
     }
 }
 
+/// What is told by the word at the front.
+pub(crate) fn take_word<W: Keyword>(stop: Stop, tokens: &[Placed]) -> Result<(W, &[Placed]), Unread>
+    ensures { Gives (λ x. (x.0, x.1.now)) result (word_at W.told stop tokens.now) }
+{
+    let (token, rest) = take_token(stop, tokens)?;
+    match &token.token {
+        Token::Name(name) => match W::of(name) {
+            Some(word) => Ok((word, rest)),
+            None => Err(syntax_at(token.place)),
+        },
+        _ => Err(syntax_at(token.place)),
+    }
+}
+
 pub(crate) fn take_name(
     alloc: Global,
     stop: Stop,
@@ -106,7 +140,7 @@ pub(crate) fn take_name(
     let (token, rest) = take_token(stop, tokens)?;
     match &token.token {
         Token::Name(name) => Ok((name.copy(alloc)?, rest)),
-        Token::LongName => Err(limit_at(LimitName::Name, NAME_LIMIT, token.place)),
+        Token::LongName => Err(limit_at(LimitName::Name, token.place)),
         _ => Err(syntax_at(token.place)),
     }
 }
@@ -121,55 +155,71 @@ pub(crate) fn take_text(
     let (token, rest) = take_token(stop, tokens)?;
     match &token.token {
         Token::Words(text) => Ok((text.copy(alloc)?, rest)),
-        Token::LongText => Err(limit_at(LimitName::Text, TEXT_LIMIT, token.place)),
+        Token::LongText => Err(limit_at(LimitName::Text, token.place)),
         _ => Err(syntax_at(token.place)),
     }
 }
 
-/// A string or a number.
-pub(crate) fn take_literal(
+/// A text, where there is room for `room` more under a limit.
+pub(crate) fn take_room(
     alloc: Global,
+    what: LimitName,
+    room: u64,
     stop: Stop,
     tokens: &[Placed],
-) -> Result<(Value, &[Placed]), Unread>
-    ensures { Gives (λ x. (x.0, x.1.now)) result (literal_at file_limits stop tokens.now) }
+) -> Result<(Text, &[Placed]), Unread>
+    ensures gives { Gives (λ x. (x.0, x.1.now)) result (room_at file_limits what room stop tokens.now) }
+    ensures room { IfOk result (λ x. 0 < room) }
 {
     let (token, rest) = take_token(stop, tokens)?;
     match &token.token {
-        Token::Words(text) => Ok((Value::Words(text.copy(alloc)?), rest)),
-        Token::LongText => Err(limit_at(LimitName::Text, TEXT_LIMIT, token.place)),
-        Token::Number(n) => Ok((Value::Num(*n), rest)),
+        Token::Words(text) => {
+            if room == 0 {
+                Err(limit_at(what, token.place))
+            } else {
+                Ok((text.copy(alloc)?, rest))
+            }
+        }
+        Token::LongText => Err(limit_at(LimitName::Text, token.place)),
         _ => Err(syntax_at(token.place)),
     }
 }
 
-pub(crate) fn take_decl_word(stop: Stop, tokens: &[Placed]) -> Result<(DeclWord, &[Placed]), Unread>
-    ensures { Gives (λ x. (x.0, x.1.now)) result (word_at decl_word stop tokens.now) }
+pub(crate) fn take_any_number(stop: Stop, tokens: &[Placed]) -> Result<(u64, &[Placed]), Unread>
+    ensures { Gives (λ x. (x.0, x.1.now)) result (any_number_at stop tokens.now) }
 {
     let (token, rest) = take_token(stop, tokens)?;
     match &token.token {
-        Token::Name(name) => match decl_word_of(name) {
-            Some(word) => Ok((word, rest)),
-            None => Err(syntax_at(token.place)),
-        },
+        Token::Number(n) => Ok((*n, rest)),
         _ => Err(syntax_at(token.place)),
     }
 }
 
-pub(crate) fn take_body_word(stop: Stop, tokens: &[Placed]) -> Result<(BodyWord, &[Placed]), Unread>
-    ensures { Gives (λ x. (x.0, x.1.now)) result (word_at body_word stop tokens.now) }
+/// A number within a limit.
+pub(crate) fn take_number(
+    what: LimitName,
+    stop: Stop,
+    tokens: &[Placed],
+) -> Result<(u64, &[Placed]), Unread>
+    ensures gives { Gives (λ x. (x.0, x.1.now)) result (number_at file_limits what stop tokens.now) }
+    ensures within { IfOk result (λ x. x.0 ≤ number_of what) }
 {
     let (token, rest) = take_token(stop, tokens)?;
     match &token.token {
-        Token::Name(name) => match body_word_of(name) {
-            Some(word) => Ok((word, rest)),
-            None => Err(syntax_at(token.place)),
-        },
+        Token::Number(n) => {
+            let number = *n;
+            if what.least() <= number && number <= what.number() {
+                Ok((number, rest))
+            } else {
+                Err(limit_at(what, token.place))
+            }
+        }
         _ => Err(syntax_at(token.place)),
     }
 }
 
-/// The opening bracket of a term, with room for `depth` brackets inside one another and for `left` terms.
+/// The opening bracket of a term, with room for `depth` brackets inside one another and for
+/// `left` terms.
 pub(crate) fn take_open(
     depth: u8,
     left: u32,
@@ -185,9 +235,9 @@ pub(crate) fn take_open(
             if *m != b'(' {
                 Err(syntax_at(token.place))
             } else if left == 0 {
-                Err(limit_at(LimitName::Terms, TERM_LIMIT, token.place))
+                Err(limit_at(LimitName::Terms, token.place))
             } else if depth == 0 {
-                Err(limit_at(LimitName::Depth, DEPTH_LIMIT, token.place))
+                Err(limit_at(LimitName::Depth, token.place))
             } else {
                 Ok(rest)
             }

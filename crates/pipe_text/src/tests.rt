@@ -1,165 +1,209 @@
-use crate::{ReadFault, read_pipeline};
+use crate::{LimitName, ReadFault, read_pipeline};
+use op_keys::Expiry;
 use std::alloc::{AllocError, Global};
 use std::test::Fail;
-use term_core::Term;
-use value_core::Value;
+use term_core::Program;
 
-fn is_read(alloc: Global, file: &str) -> bool {
-    matches!(read_pipeline(alloc, file.as_bytes()), Ok(_))
+/// A fault in the words that the program prints.
+fn words_of(alloc: Global, fault: ReadFault) -> Result<String, AllocError> {
+    match fault {
+        ReadFault::Lex(place) => format!(in alloc; "lex at {place}"),
+        ReadFault::Syntax(place) => format!(in alloc; "syntax at {place}"),
+        ReadFault::Limit(what, number, place) => {
+            let name = what.word();
+            format!(in alloc; "limit {name} {number} at {place}")
+        }
+        ReadFault::Duplicate(name, place) => {
+            let name = name.as_str();
+            format!(in alloc; "duplicate {name} at {place}")
+        }
+        ReadFault::NoMemory => String::from_str(alloc, "no memory"),
+    }
 }
 
-fn is_refused(alloc: Global, file: &str) -> bool {
-    matches!(
-        read_pipeline(alloc, file.as_bytes()),
-        Err(ReadFault::Refused)
-    )
+/// How the bytes of a file are answered.
+fn answer(alloc: Global, bytes: &[u8]) -> Result<String, AllocError> {
+    match read_pipeline(alloc, bytes) {
+        Ok(_) => String::from_str(alloc, "read"),
+        Err(fault) => words_of(alloc, fault),
+    }
 }
 
-fn repeated(alloc: Global, piece: &str, count: usize) -> Result<String, AllocError> {
-    let mut text = String::new(alloc);
+fn repeated(alloc: Global, front: &str, piece: &str, count: usize) -> Result<String, AllocError> {
+    let mut text = String::from_str(alloc, front)?;
     for _ in 0..count {
         text.push_str(piece)?;
     }
     Ok(text)
 }
 
-/// A file of so many inputs, a node of so many pairs inside one another, and so many nodes of
-/// five terms and of one.
-fn file_of(
-    alloc: Global,
-    inputs: usize,
-    pairs: usize,
-    fives: usize,
-    ones: usize,
-) -> Result<String, AllocError> {
-    let mut file = String::from_str(alloc, "pipeline 1\n")?;
-    for i in 0..inputs {
-        write!(file, "input i{i} text \"a\"\n")?;
-    }
-    file.push_str("node deep ")?;
-    file.push_str(repeated(alloc, "(pair ", pairs)?.as_str())?;
-    file.push_str("(return 0)")?;
-    file.push_str(repeated(alloc, " (return 0))", pairs)?.as_str())?;
-    for i in 0..fives {
-        write!(
-            file,
-            "\nnode f{i} (pair (pair (return 0) (return 0)) (return 0))"
-        )?;
-    }
-    for i in 0..ones {
-        write!(file, "\nnode o{i} (return 0)")?;
-    }
-    Ok(file)
-}
+/// A file, and the place of its first fault with its cause.
+const FAULTS: [(&str, &str); 19] = [
+    ("", "syntax at 0"),
+    ("pipeline 1\nnode n (fial)", "syntax at 19"),
+    ("pipeline 1\ninput A text \"a\"", "lex at 17"),
+    (
+        "pipeline 1\nnode n (return 1)\nnode n (return 1)",
+        "duplicate n at 34",
+    ),
+    (
+        "pipeline 1\npool p hold 0\nworker w p 9",
+        "limit capacity 8 at 36",
+    ),
+    ("pipeline 3", "syntax at 9"),
+    (
+        "pipeline 1 pool p hold 86400001",
+        "limit hold 86400000 at 23",
+    ),
+    ("pipeline 1 client c p 0", "limit rate 1000 at 22"),
+    ("pipeline 1 client c p 1 client c q 1", "read"),
+    ("pipeline 1 client c p 1 client c p 1", "duplicate c at 33"),
+    (
+        "pipeline 1 op f build pool p client c cost 1 0 schedule daily 0 east 0 run \"f\"",
+        "syntax at 47",
+    ),
+    (
+        "pipeline 2 op f build pool p client c cost 1 0 schedule monthly 0 0 east 0 run \"f\"",
+        "limit day 28 at 64",
+    ),
+    (
+        "pipeline 2 op f output pool p client c cost 1 0 latched run \"f\"",
+        "syntax at 48",
+    ),
+    (
+        "pipeline 2 op f build pool p client c cost 1 0 urgent hint \"h\" run \"f\"",
+        "syntax at 54",
+    ),
+    ("pipeline 1 node n (return 1", "syntax at 27"),
+    ("pipeline 1 node n (return 1))", "syntax at 28"),
+    ("pipeline 1 input a num \"a\"", "syntax at 23"),
+    ("pipeline 1 input a list [\"a\" \"b\"]", "syntax at 29"),
+    ("pipeline 1 input a text \"a\" watch", "syntax at 33"),
+];
 
 #[test]
-fn reads_two_nodes_over_an_input(rt: HostRuntime) -> Result<(), Fail> {
-    let file =
-        "pipeline 1\ninput head text \"a\"\nnode tip (input head)\nnode both (pair (node tip) (return 7))\n";
-    let program = read_pipeline(rt.alloc(), file.as_bytes())?;
-    assert_eq!(rt; program.inputs.len(), 1);
-    assert_eq!(rt; program.nodes.len(), 2);
-    let head = &program.inputs.as_slice()[0];
-    assert_eq!(rt; head.name.as_str(), "head");
-    assert!(rt; matches!(&head.value, Value::Words(text) if text.as_str() == "a"));
-    let tip = &program.nodes.as_slice()[0];
-    assert_eq!(rt; tip.name.as_str(), "tip");
-    assert!(rt; matches!(&tip.term, Term::Input(name) if name.as_str() == "head"));
-    let both = &program.nodes.as_slice()[1];
-    assert_eq!(rt; both.name.as_str(), "both");
-    let Term::Pair(first, second) = &both.term else {
-        return Err("no pair")?;
-    };
-    assert!(rt; matches!(first.get(), Term::Node(name) if name.as_str() == "tip"));
-    assert!(rt; matches!(second.get(), Term::Return(Value::Num(7))));
+fn faults_stand_at_their_places(rt: HostRuntime) -> Result<(), Fail> {
+    for (file, wanted) in FAULTS {
+        let found = answer(rt.alloc(), file.as_bytes())?;
+        assert_eq!(rt; found.as_str(), wanted);
+    }
     Ok(())
 }
 
 #[test]
-fn keeps_each_kind_in_file_order(rt: HostRuntime) -> Result<(), Fail> {
-    let file =
-        "pipeline 1 # two of each\nnode a (return \"x\\n\") input a text \"\" input b text \"q\" node b(input a)";
-    let program = read_pipeline(rt.alloc(), file.as_bytes())?;
-    assert_eq!(rt; program.inputs.len(), 2);
-    assert_eq!(rt; program.nodes.len(), 2);
-    assert_eq!(rt; program.inputs.as_slice()[0].name.as_str(), "a");
-    assert_eq!(rt; program.inputs.as_slice()[1].name.as_str(), "b");
-    assert_eq!(rt; program.nodes.as_slice()[0].name.as_str(), "a");
-    assert_eq!(rt; program.nodes.as_slice()[1].name.as_str(), "b");
-    Ok(())
-}
-
-#[test]
-fn reads_files_at_their_limits(rt: HostRuntime) -> Result<(), Fail> {
+fn limits_are_kept_by_one(rt: HostRuntime) -> Result<(), Fail> {
     let alloc = rt.alloc();
-    let long_name = format!(in alloc; "pipeline 1 node {} (return 0)", repeated(alloc, "n", 64)?)?;
-    let long_text = format!(in alloc;
-        "pipeline 1 input a text \"{}\"",
-        repeated(alloc, "t", 65536)?
-    )?;
-    let long_file = format!(in alloc; "pipeline 1{}", repeated(alloc, " ", 1048566)?)?;
+    let run = "pipeline 1 op f build pool p client c cost 1 0 run";
     let cases = [
-        ("no declaration", String::from_str(alloc, "pipeline 1")?),
+        (repeated(alloc, "pipeline 1", " ", 1_048_566)?, "read"),
         (
-            "256 inputs, 1000 nodes, 64 terms deep",
-            file_of(alloc, 256, 63, 0, 999)?,
+            repeated(alloc, "pipeline 1", " ", 1_048_567)?,
+            "limit file 1048576 at 0",
         ),
-        ("4096 terms", file_of(alloc, 0, 0, 819, 0)?),
-        ("a name of 64 bytes", long_name),
-        ("a text of 65536 bytes", long_text),
-        ("1048576 bytes", long_file),
+        (
+            repeated(alloc, "pipeline 1 node n ", "(catch ", 65)?,
+            "limit depth 64 at 466",
+        ),
+        (
+            repeated(alloc, "pipeline 1 node n ", "(catch ", 64)?,
+            "syntax at 466",
+        ),
+        (
+            repeated(alloc, "pipeline 1 node n (all", " (all)", 4_096)?,
+            "limit terms 4096 at 24593",
+        ),
+        (repeated(alloc, run, " \"f\"", 64)?, "read"),
+        (repeated(alloc, run, " \"f\"", 65)?, "limit words 64 at 307"),
     ];
-    for (what, file) in &cases {
-        assert!(rt; is_read(alloc, file.as_str()), "{what}");
+    for (file, wanted) in &cases {
+        let found = answer(alloc, file.as_bytes())?;
+        assert_eq!(rt; found.as_str(), *wanted);
     }
     Ok(())
 }
 
-#[test]
-fn refuses_what_is_no_file(rt: HostRuntime) {
-    let cases = [
-        ("no bytes", ""),
-        ("another version", "pipeline 2"),
-        ("no such term", "pipeline 1 node n (fial)"),
-        ("no name", "pipeline 1 input A text \"a\""),
-        (
-            "the same node twice",
-            "pipeline 1 node n (return 1) node n (return 1)",
-        ),
-        (
-            "the same input twice",
-            "pipeline 1 input n text \"a\" input n text \"b\"",
-        ),
-        ("no closing bracket", "pipeline 1 node n (return 1"),
-        ("one term in a pair", "pipeline 1 node n (pair (return 1))"),
-        ("garbage behind the end", "pipeline 1 node n (return 1))"),
-        ("a byte that no token begins with", "pipeline 1 ;"),
-    ];
-    for (cause, file) in cases {
-        assert!(rt; is_refused(rt.alloc(), file), "{cause}");
+/// A file with one repository's builds, tests and deployments.
+const REPOSITORY: &str = "pipeline 1
+# one repository
+input branches text \"main\\ndev\" watch \"branches.txt\"
+pool linux hold 60000
+client ci linux 4
+worker w1 linux 2
+op compile build pool linux client ci cost 20 5 hint \"src\" run \"make\" \"{key}\"
+op test build pool linux client ci cost 10 5 hint \"src\" run \"check\" \"{key}\"
+op deploy output pool linux client ci cost 1 1 level dangerous run \"deploy\" \"{key}\" \"{value}\"
+node names (map lines (input branches))
+node built (list_map b (node names) (bind img (build compile (var b)) (pair (var b) (var img))))
+node tested (list_iter b (node names) (map equal (pair (build test (var b)) (return \"pass\"))))
+node ship (bind img (gate (node tested) (build compile (return \"main\"))) (output deploy (return \"prod\") (var img)))
+";
+
+/// Whether the first bytes of a file are read, or are refused at a place within them.
+fn is_told(alloc: Global, bytes: &[u8]) -> bool {
+    match read_pipeline(alloc, bytes) {
+        Ok(_) => true,
+        Err(ReadFault::Lex(place)) | Err(ReadFault::Syntax(place)) => place <= bytes.len(),
+        Err(_) => false,
     }
 }
 
 #[test]
-fn refuses_files_over_a_limit(rt: HostRuntime) -> Result<(), Fail> {
-    let alloc = rt.alloc();
-    let long_name = format!(in alloc; "pipeline 1 node {} (return 0)", repeated(alloc, "n", 65)?)?;
-    let long_text = format!(in alloc;
-        "pipeline 1 input a text \"{}\"",
-        repeated(alloc, "t", 65537)?
-    )?;
-    let long_file = format!(in alloc; "pipeline 1{}", repeated(alloc, " ", 1048567)?)?;
-    let cases = [
-        ("257 inputs", file_of(alloc, 257, 0, 0, 0)?),
-        ("1001 nodes", file_of(alloc, 0, 0, 0, 1000)?),
-        ("65 terms deep", file_of(alloc, 0, 64, 0, 0)?),
-        ("4097 terms", file_of(alloc, 0, 0, 819, 1)?),
-        ("a name of 65 bytes", long_name),
-        ("a text of 65537 bytes", long_text),
-        ("1048577 bytes", long_file),
-    ];
-    for (cause, file) in &cases {
-        assert!(rt; is_refused(alloc, file.as_str()), "{cause}");
+fn each_prefix_is_read_or_has_a_place(rt: HostRuntime) {
+    let bytes = REPOSITORY.as_bytes();
+    for end in 0..=bytes.len() {
+        if let Some(front) = bytes.get(..end) {
+            assert!(rt; is_told(rt.alloc(), front), "{end}");
+        }
     }
+}
+
+/// A file with each declaration and each term.
+const EACH: &str = "pipeline 2
+input t text \"a\" watch \"f\" input n num 7 input l list [\"a\", \"b\"] input e list []
+pool p hold 86400000 client c p 1000 worker w p 8
+op a build pool p client c cost 20 5 hint \"h\" urgent level harmless valid_for 9 latched no_cancel run \"a\" \"b\"
+op d build pool p client c cost 0 0 schedule daily 1439 west 1080 run \"d\"
+op m build pool p client c cost 0 0 schedule monthly 28 0 east 60 run \"m\"
+op o output pool p client c cost 1 1 no_cancel run \"o\"
+node x (all (return \"s\") (return 1) (return unit) (return [\"a\"]) (fail num \"m\") (input t) (var v))
+node y (bind b (map trim (input t)) (pair (var b) (node x)))
+node z (gate (list_iter i (input l) (build a (var i))) (list_map i (input l) (var i)))
+node q (all (catch (output o (var b) (var b))) (state (node x)))
+";
+
+/// How many of each there are.
+fn counts(program: &Program) -> [usize; 6] {
+    [
+        program.inputs.len(),
+        program.pools.len(),
+        program.clients.len(),
+        program.workers.len(),
+        program.ops.len(),
+        program.nodes.len(),
+    ]
+}
+
+#[test]
+fn each_declaration_and_term_is_read(rt: HostRuntime) -> Result<(), Fail> {
+    let program = read_pipeline(rt.alloc(), EACH.as_bytes())?;
+    assert_eq!(rt; program.version, 2);
+    assert_eq!(rt; counts(&program), [4, 1, 1, 1, 4, 4]);
+    let expiries = [
+        Expiry::After(9),
+        Expiry::Daily {
+            minute: 1439,
+            offset: -1080,
+        },
+        Expiry::Monthly {
+            day: 28,
+            minute: 0,
+            offset: 60,
+        },
+        Expiry::Never,
+    ];
+    for (op, expiry) in program.ops.as_slice().iter().zip(expiries.iter()) {
+        assert_eq!(rt; op.expiry, *expiry);
+    }
+    assert_eq!(rt; LimitName::ValidFor.word(), "valid_for");
     Ok(())
 }

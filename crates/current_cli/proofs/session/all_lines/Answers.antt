@@ -1,4 +1,4 @@
-use Rattle.std.proofs.Common.{ap, sym, rules, Ok, Err}
+use Rattle.std.proofs.Common.{ap, rules, Ok, Err}
 use Rattle.current_cli.proofs.SoFar.{goes_on, stops_in}
 use Rattle.current_cli.proofs.session.all_lines.Goals as goal
 

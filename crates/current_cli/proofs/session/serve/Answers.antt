@@ -1,5 +1,5 @@
-use Rattle.std.proofs.Common.{[], refl}
-use Rattle.current_cli.proofs.Stops.{printed, print_failed}
+use Rattle.std.proofs.Common.{[]}
+use Rattle.current_cli.proofs.Stops.{print_failed}
 use Rattle.current_cli.proofs.session.serve.Goals as goal
 
 pub returns-in-Err-clause-err : goal.returns-in-Err-clause-err

@@ -1,12 +1,14 @@
-use Rattle.std.proofs.Common.{◌≡◌, length}
-use Rattle.pipe_text.specs.Looking.{Kept}
-use Rattle.pipe_text.specs.FileReading.{file_bounds, none_so_far, all_at}
+use Rattle.std.proofs.Common.{◌≡◌, List, [], length}
+use Rattle.pipe_text.specs.declared.declaration.Declaration.{Declaration}
+use Rattle.pipe_text.specs.Looking.{Knows}
+use Rattle.pipe_text.specs.FileReading.{file_bounds, all_at}
 use Rattle.pipe_text.proofs.declarations.take_all.Given as goal
 
 abbrev pub invariant-declarations : goal.invariant-declarations
 invariant-declarations l = record {
-  kept : Kept l.it;
-  same : all_at file_bounds l.it.so_far l.stop l.tokens ≡ all_at file_bounds none_so_far l.stop l.fn.tokens;
+  before : List Declaration;
+  knows : Knows l.version before l.it;
+  same : all_at file_bounds l.version before l.stop l.tokens ≡ all_at file_bounds l.version [] l.stop l.fn.tokens;
 }
 
 abbrev pub decreases-declarations : goal.decreases-declarations

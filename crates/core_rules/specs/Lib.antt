@@ -1,0 +1,13 @@
+pub mod Core
+pub mod Entries
+pub mod Settling
+pub mod Exits
+pub mod Replies
+pub mod Changes
+pub mod Orders
+pub mod Steps
+pub mod Openings
+pub mod Replays
+pub mod Laws
+pub mod Codes
+pub mod Parts

@@ -1,0 +1,65 @@
+-- What is answered to an event that isn't refused.
+use Rattle.std.specs.Prelude.{ℕ, ◌+◌, not, Bool, ◌&&◌, nat_lt, if◌then◌else◌, List, [], ◌∷◌, length, Option, None, filter}
+use Rattle.value_core.specs.declared.state.State.{State}
+use Rattle.value_core.specs.declared.state.Triple.{Triple}
+use Rattle.value_core.specs.Codes.{state_code}
+use Rattle.value_core.specs.Same.{same}
+use Rattle.sched_rows.specs.declared.row.Row.{Row}
+use Rattle.core_rules.specs.declared.notes.Note.{Note}
+use Rattle.core_rules.specs.Settling.{on_key, in_order}
+
+-- what is stored of a step: an input's name and printed value, a row that is put, an operation's name and a key whose row goes, a job's log, and the next number
+pub record Delta : Type 0 where
+  pub input : Option (List ℕ × List ℕ)
+  pub put : Option Row
+  pub void : Option (List ℕ × List ℕ)
+  pub log : Option (ℕ × List ℕ)
+  pub next : ℕ
+
+-- the next number alone
+abbrev pub next_alone : ℕ → Delta
+next_alone next = record { input = None; put = None; void = None; log = None; next = next }
+
+-- the version, the nodes whose state changed with the new state, the keys that are wanted with two values anew, and the jobs that were marked
+pub record Reply : Type 0 where
+  pub note : Note
+  pub version : ℕ
+  pub changed : List (ℕ × State)
+  pub conflicts : List (ℕ × List ℕ)
+  pub signals : List ℕ
+  pub delta : Delta
+
+-- ---- changed nodes
+
+-- the nodes whose state differs, in file order from a number on
+abbrev pub changed_from : ℕ → List State → List State → List (ℕ × State)
+changed_from at old [] = []
+changed_from at [] (b ∷ bs) = (at, b) ∷ changed_from (at + 1) [] bs
+changed_from at (a ∷ old) (b ∷ bs) = if same state_code a b then changed_from (at + 1) old bs else ((at, b) ∷ changed_from (at + 1) old bs)
+
+-- ---- conflicts
+
+-- whether an operation and key have two or more wanted values
+abbrev pub conflicted : List Triple → ℕ → List ℕ → Bool
+conflicted ws op key = nat_lt 1 (length (filter (on_key op key) (in_order ws)))
+
+-- the operations and keys of some triples in order, each once
+abbrev pub keys_of : List Triple → List (ℕ × List ℕ)
+keys_of [] = []
+keys_of (t ∷ ts) = if nat_lt 0 (length (filter (on_key t.op t.key) ts)) then keys_of ts else ((t.op, t.key) ∷ keys_of ts)
+
+-- those that have two or more wanted values now and had fewer before, in order
+abbrev pub new_conflicts : List Triple → List Triple → List (ℕ × List ℕ)
+new_conflicts old new = filter (λ k. conflicted new k.0 k.1 && not (conflicted old k.0 k.1)) (keys_of (in_order new))
+
+-- ---- signals
+
+-- rising numbers with one more in its place
+abbrev pub with_number : ℕ → List ℕ → List ℕ
+with_number m [] = m ∷ []
+with_number m (n ∷ ns) = if nat_lt m n then m ∷ n ∷ ns else n ∷ with_number m ns
+
+-- rising numbers with some more, each in its place
+abbrev pub with_numbers : List ℕ → List ℕ → List ℕ
+with_numbers [] ns = ns
+with_numbers (m ∷ ms) ns = with_number m (with_numbers ms ns)

@@ -1,0 +1,42 @@
+//! Laws of the core. A law's function does nothing: its contract is the law.
+ghost use Rattle.core_rules.specs.Laws.{WorldIsEntries, SettlingKeepsStates, InvariantAtOpening, InvariantThroughSteps, InvariantWhereReached, StartsArePicks, ChangesTell, ReplaysAreOne};
+
+/// The world of a state has the state's entry for each triple.
+pub fn world_is_entries()
+    ensures { WorldIsEntries }
+{}
+
+/// Settling changes no wanted triple's entry, and so neither a node's state nor what is wanted.
+pub fn settling_keeps_states()
+    ensures { SettlingKeepsStates }
+{}
+
+/// Each state that an opening gives meets the invariant.
+pub fn invariant_at_opening()
+    ensures { InvariantAtOpening }
+{}
+
+/// Each accepted event keeps the invariant, the moment doesn't fall, and the version rises by one.
+pub fn invariant_through_steps()
+    ensures { InvariantThroughSteps }
+{}
+
+/// Each state that an opening and a list of entries lead to meets the invariant.
+pub fn invariant_where_reached()
+    ensures { InvariantWhereReached }
+{}
+
+/// Each job that is started was ready, permitted or confirmed, and was the pick.
+pub fn starts_are_picks()
+    ensures { StartsArePicks }
+{}
+
+/// The changed nodes of a reply, put over the old states, give the new ones.
+pub fn changes_tell()
+    ensures { ChangesTell }
+{}
+
+/// A replay has one end.
+pub fn replays_are_one()
+    ensures { ReplaysAreOne }
+{}

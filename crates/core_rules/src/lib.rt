@@ -1,0 +1,21 @@
+//! The rules of the core: what its state is, what an event makes of it, and the laws that follow.
+//!
+//! `jobs` has the jobs, `events` what happens to the core and what refuses it, `notes` what is
+//! answered, and `log` what a replay goes by. The definitions over them stand in specs/, and `laws`
+//! has the laws.
+#![tactic(auto)]
+
+mod events;
+mod jobs;
+mod laws;
+mod log;
+mod notes;
+
+pub use events::{Event, Refusal, What};
+pub use jobs::{Job, Mark};
+pub use laws::{
+    changes_tell, invariant_at_opening, invariant_through_steps, invariant_where_reached,
+    replays_are_one, settling_keeps_states, starts_are_picks, world_is_entries,
+};
+pub use log::Logged;
+pub use notes::{Ending, Note};

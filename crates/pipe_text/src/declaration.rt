@@ -1,0 +1,92 @@
+//! Declarations, and the parts that they are read in.
+ghost use Rattle.std.specs.Prelude.{◌≡◌};
+ghost use Rattle.pipe_text.specs.Looking.{word_of, name_of};
+ghost use Rattle.pipe_text.specs.Standing.{terms_of};
+
+use crate::words::DeclWord;
+use op_keys::{ClientDecl, Expiry, Level, OpDecl, PoolDecl, WorkerDecl};
+use term_core::{InputDecl, NodeDecl};
+use value_core::{Text, Value};
+
+/// A declaration of a file.
+#[derive(Drop)]
+pub enum Declaration {
+    Input(InputDecl),
+    Pool(PoolDecl),
+    Client(ClientDecl),
+    Worker(WorkerDecl),
+    Op(OpDecl),
+    /// A node, and how many terms it is made of.
+    Node(NodeDecl, u32),
+}
+
+impl Declaration {
+    /// The word that it begins with.
+    pub(crate) fn word(&self) -> DeclWord
+        ensures { result ≡ word_of self.now }
+    {
+        match self {
+            Declaration::Input(_) => DeclWord::Input,
+            Declaration::Pool(_) => DeclWord::Pool,
+            Declaration::Client(_) => DeclWord::Client,
+            Declaration::Worker(_) => DeclWord::Worker,
+            Declaration::Op(_) => DeclWord::Op,
+            Declaration::Node(..) => DeclWord::Node,
+        }
+    }
+
+    /// The name that it declares.
+    pub(crate) fn name(&self) -> &Text
+        ensures { result.now ≡ name_of self.now }
+    {
+        match self {
+            Declaration::Input(input) => &input.name,
+            Declaration::Pool(pool) => &pool.name,
+            Declaration::Client(client) => &client.name,
+            Declaration::Worker(worker) => &worker.name,
+            Declaration::Op(op) => &op.name,
+            Declaration::Node(node, _) => &node.name,
+        }
+    }
+
+    /// How many terms it is made of.
+    pub(crate) fn terms(&self) -> u32
+        ensures { result ≡ terms_of self.now }
+    {
+        match self {
+            Declaration::Node(_, terms) => *terms,
+            _ => 0,
+        }
+    }
+}
+
+/// What an input is declared with.
+#[derive(Drop)]
+pub struct InputValue {
+    pub value: Value,
+    pub watch: Option<Text>,
+}
+
+/// Where an operation's orders go, and what they cost.
+#[derive(Drop)]
+pub struct Where {
+    pub pool: Text,
+    pub client: Text,
+    pub full: u64,
+    pub cached: u64,
+}
+
+/// The settings of each operation.
+#[derive(Drop)]
+pub struct Manner {
+    pub hint: Option<Text>,
+    pub urgent: bool,
+    pub level: Level,
+}
+
+/// How long a build keeps its results.
+#[derive(Clone, Copy, Debug, PartialEq, Eq)]
+pub struct Keeping {
+    pub expiry: Expiry,
+    pub latched: bool,
+}

@@ -1,0 +1,11 @@
+pub mod Checks
+pub mod Parts
+pub mod Sounds
+pub mod Whole
+pub mod Suits
+pub mod Named
+pub mod Wants
+pub mod Inputs
+pub mod Reported
+pub mod Small
+pub mod Proper

@@ -1,0 +1,9 @@
+pub mod Printed
+pub mod Functions
+pub mod Verdicts
+pub mod Typing
+pub mod Faults
+pub mod Reports
+pub mod Codes
+pub mod Bounds
+pub mod Laws

@@ -1,0 +1,153 @@
+//! The check of whole programs.
+ghost use Rattle.std.specs.Prelude.{◌≡◌, ◌^◌, ◌<◌, ◌≤◌, [], None, length, map, sum, IfOk, IfErr, OnOk};
+ghost use Rattle.term_core.specs.Limits.{IsWithinLimits, terms_in};
+ghost use Rattle.term_core.specs.Soundness.{IsSound};
+ghost use Rattle.term_check.specs.Faults.{IsFirstFault, check_fault, client_fault, first_fault, node_fault, op_fault, or_later, unknown, worker_fault};
+
+use crate::checked::Checked;
+use crate::fault::{CheckFault, CheckWhat, FaultPlace};
+use crate::names::{Against, is_client, is_pool};
+use crate::typing::check_term;
+use crate::verdict::{Scope, Verdict};
+use op_keys::{ClientDecl, OpDecl, WorkerDecl};
+use std::alloc::Global;
+use term_core::Program;
+use value_core::{Kind, ListOf, NoMemory, Text};
+
+fn unknown(alloc: Global, place: FaultPlace, name: &Text) -> Result<CheckFault, NoMemory>
+    ensures { IfOk result (λ f. f ≡ unknown place name.now) }
+{
+    Ok(CheckFault {
+        place,
+        what: CheckWhat::UnknownName(name.copy(alloc)?),
+    })
+}
+
+/// The first client whose pool isn't declared.
+fn client_fault(alloc: Global, program: &Program) -> Result<Option<CheckFault>, NoMemory>
+    requires { length program.now.clients < 2 ^ 32 }
+    ensures { IfOk result (λ f. f ≡ first_fault (client_fault program.now) 0 program.now.clients) }
+{
+    for (i, client) in program.clients.as_slice().iter().enumerate() {
+        if !is_pool(program, &client.pool) {
+            let place = FaultPlace::Client(i as u32);
+            return Ok(Some(unknown(alloc, place, &client.pool)?));
+        }
+    }
+    Ok(None)
+}
+
+/// The first worker whose pool isn't declared.
+fn worker_fault(alloc: Global, program: &Program) -> Result<Option<CheckFault>, NoMemory>
+    requires { length program.now.workers < 2 ^ 32 }
+    ensures { IfOk result (λ f. f ≡ first_fault (worker_fault program.now) 0 program.now.workers) }
+{
+    for (i, worker) in program.workers.as_slice().iter().enumerate() {
+        if !is_pool(program, &worker.pool) {
+            let place = FaultPlace::Worker(i as u32);
+            return Ok(Some(unknown(alloc, place, &worker.pool)?));
+        }
+    }
+    Ok(None)
+}
+
+/// The first operation whose pool, or whose client in that pool, isn't declared.
+fn op_fault(alloc: Global, program: &Program) -> Result<Option<CheckFault>, NoMemory>
+    requires { length program.now.ops < 2 ^ 32 }
+    ensures { IfOk result (λ f. f ≡ first_fault (op_fault program.now) 0 program.now.ops) }
+{
+    for (i, op) in program.ops.as_slice().iter().enumerate() {
+        if !is_pool(program, &op.pool) {
+            return Ok(Some(unknown(alloc, FaultPlace::Op(i as u32), &op.pool)?));
+        }
+        if !is_client(program, &op.client, &op.pool) {
+            return Ok(Some(unknown(alloc, FaultPlace::Op(i as u32), &op.client)?));
+        }
+    }
+    Ok(None)
+}
+
+/// The first fault in a term of a node.
+fn node_fault(alloc: Global, program: &Program) -> Result<Option<CheckFault>, NoMemory>
+    requires few { length program.now.nodes < 2 ^ 32 }
+    requires room { sum (map (λ d. terms_in d.term) program.now.nodes) < 2 ^ 32 }
+    ensures { IfOk result (λ f. f ≡ node_fault program.now 0 [] 0 program.now.nodes) }
+{
+    let mut earlier: ListOf<Kind> = ListOf::new(alloc);
+    let mut deep = 0;
+    for (i, node) in program.nodes.as_slice().iter().enumerate() {
+        let scope = Scope {
+            bodies: 0,
+            deep,
+            at: 0,
+        };
+        let mut bound = ListOf::new(alloc);
+        let against = Against {
+            program,
+            earlier: earlier.as_slice(),
+        };
+        match check_term(alloc, &node.term, &against, &mut bound, scope)? {
+            Verdict::Typed {
+                kind,
+                deep: deep_so_far,
+                next: _,
+            } => {
+                earlier.push(kind)?;
+                deep = deep_so_far;
+            }
+            Verdict::Faulty { term, what } => {
+                let place = FaultPlace::Node {
+                    node: i as u32,
+                    term,
+                };
+                return Ok(Some(CheckFault { place, what }));
+            }
+        }
+    }
+    Ok(None)
+}
+
+/// The first fault of a program.
+#[tactic(auto, unfolding(crate::specs::Faults::check_fault))]
+pub(crate) fn program_fault(
+    alloc: Global,
+    program: &Program,
+) -> Result<Option<CheckFault>, NoMemory>
+    requires clients { length program.now.clients < 2 ^ 32 }
+    requires workers { length program.now.workers < 2 ^ 32 }
+    requires ops { length program.now.ops < 2 ^ 32 }
+    requires nodes { length program.now.nodes < 2 ^ 32 }
+    requires room { sum (map (λ d. terms_in d.term) program.now.nodes) < 2 ^ 32 }
+    ensures { IfOk result (λ f. f ≡ check_fault program.now) }
+{
+    if let Some(fault) = client_fault(alloc, program)? {
+        return Ok(Some(fault));
+    }
+    if let Some(fault) = worker_fault(alloc, program)? {
+        return Ok(Some(fault));
+    }
+    if let Some(fault) = op_fault(alloc, program)? {
+        return Ok(Some(fault));
+    }
+    node_fault(alloc, program)
+}
+
+/// Takes a program, whose numbers and texts are within the limits, where it is sound. The fault is
+/// the first one in the order of the check: clients with their pools, workers with theirs,
+/// operations with their pool and their client in it, and then the nodes.
+pub fn check(alloc: Global, program: Program) -> Result<Checked, CheckFault>
+    requires within { IsWithinLimits program }
+    ensures program { IfOk result (λ c. c ≡ program) }
+    ensures sound { OnOk result (IsSound program) }
+    ensures faultless { OnOk result (check_fault program ≡ None) }
+    ensures fault { IfErr result (IsFirstFault program) }
+{
+    match program_fault(alloc, &program) {
+        Ok(None) => Ok(Checked::of(program)),
+        Ok(Some(fault)) => Err(fault),
+        Err(_) => Err(CheckFault {
+            place: FaultPlace::Client(0),
+            what: CheckWhat::NoMemory,
+        }),
+    }
+}
