@@ -1,0 +1,74 @@
+#!/usr/bin/env python3
+"""Measures `run` on two files without lines, beside `ninja -n` on build files of as many statements.
+
+One file is nearly 1 MiB, most of it texts; the other has 1,000 nodes and 4,096 terms. Each run starts
+the program, reads, checks, evaluates and prints version 1. Build the program first: `rt run` or
+`rt ci` leave it in crates/current_cli/out. Each is run five times, and the fastest run counts. Where
+ninja is missing the ratio is left out.
+"""
+import os
+import shutil
+import subprocess
+import sys
+import tempfile
+import time
+
+RUNS = 5
+
+
+def texts():
+    lines = ["pipeline 1"]
+    lines += [f'input i{n} text "{"x" * 65000}"' for n in range(16)]
+    lines += [f"node n{n} (map length (input i{n}))" for n in range(16)]
+    return lines
+
+
+def terms():
+    lines = ["pipeline 1", 'input t text "start"']
+    # 32 nodes of 7 terms and 968 of 4: 4,096 terms
+    equal = '(map equal (pair (input t) (return "start")))'
+    for n in range(1000):
+        term = f"(all {equal} (return unit) (return unit))" if n < 32 else equal
+        lines.append(f"node n{n} {term}")
+    return lines
+
+
+def ninja_file(statements):
+    lines = ["rule f", "  command = true"]
+    lines += [f"build o{n}: f" for n in range(statements)]
+    return "\n".join(lines) + "\n"
+
+
+def seconds(words, cwd):
+    best = None
+    for _ in range(RUNS):
+        start = time.perf_counter()
+        run = subprocess.run(words, cwd=cwd, stdin=subprocess.DEVNULL, stdout=subprocess.DEVNULL, check=False)
+        took = time.perf_counter() - start
+        if run.returncode != 0:
+            sys.exit(f"{words[0]} ended with status {run.returncode}")
+        best = took if best is None else min(best, took)
+    return best
+
+
+def main():
+    top = os.path.dirname(os.path.dirname(os.path.abspath(__file__)))
+    program = os.path.join(top, "crates", "current_cli", "out", "current_cli")
+    if not os.path.exists(program):
+        sys.exit("build it first: (cd crates/current_cli && rt run)")
+    for name, lines in (("texts", texts()), ("terms", terms())):
+        with tempfile.TemporaryDirectory() as folder:
+            file = os.path.join(folder, "p")
+            with open(file, "w", encoding="utf-8") as f:
+                f.write("\n".join(lines) + "\n")
+            with open(os.path.join(folder, "build.ninja"), "w", encoding="utf-8") as f:
+                f.write(ninja_file(len(lines) - 1))
+            ours = seconds([program, "run", file], folder)
+            said = f"{name}: {os.path.getsize(file)} bytes, {len(lines) - 1} statements, {ours * 1000:.1f} ms"
+            if shutil.which("ninja"):
+                peer = seconds(["ninja", "-n"], folder)
+                said += f"; ninja -n {peer * 1000:.1f} ms, ratio {ours / peer:.2f}"
+            print(said)
+
+
+main()
