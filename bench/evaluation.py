@@ -29,6 +29,8 @@ def build(top, folder):
     ours = os.path.join(folder, "crates", "evaluations")
     os.makedirs(os.path.join(ours, "src"))
     shutil.copy(os.path.join(here, "main.rattle"), os.path.join(ours, "src", "main.rt"))
+    os.makedirs(os.path.join(ours, "proofs", "run"))
+    shutil.copy(os.path.join(here, "ghosts.txt"), os.path.join(ours, "proofs", "run", "Invariants.antt"))
     with open(os.path.join(folder, "crates.txt"), "w", encoding="utf-8") as f:
         f.write("value_core: sqlite_items\nop_keys: value_core\n")
         f.write("term_core: value_core op_keys sqlite_items\n")
