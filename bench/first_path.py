@@ -6,10 +6,9 @@ run three times, and the fastest run counts. The peer does no work but to copy t
 ratio says how far the program is from the speed of output alone.
 """
 import os
-import subprocess
-import sys
 import tempfile
-import time
+
+from running import built_program, fastest
 
 INPUTS = 250
 NODES = 1000
@@ -28,32 +27,16 @@ def controls():
     return "".join(f'set i{n % INPUTS} "value {n}"\n' for n in range(LINES))
 
 
-def seconds(words, given, taken):
-    best = None
-    for _ in range(RUNS):
-        with open(given, "rb") as source, open(taken, "wb") as sink:
-            start = time.perf_counter()
-            status = subprocess.run(words, stdin=source, stdout=sink, check=False).returncode
-            took = time.perf_counter() - start
-        if status != 0:
-            sys.exit(f"{words[0]} ended with status {status}")
-        best = took if best is None else min(best, took)
-    return best
-
-
 def main():
-    top = os.path.dirname(os.path.dirname(os.path.abspath(__file__)))
-    program = os.path.join(top, "crates", "current_cli", "out", "current_cli")
-    if not os.path.exists(program):
-        sys.exit("build it first: (cd crates/current_cli && rt run)")
+    program = built_program()
     with tempfile.TemporaryDirectory() as folder:
         file, lines, out, copy = (os.path.join(folder, n) for n in ("p", "lines", "out", "copy"))
         with open(file, "w", encoding="utf-8") as f:
             f.write(pipeline())
         with open(lines, "w", encoding="utf-8") as f:
             f.write(controls())
-        ours = seconds([program, "run", file], lines, out)
-        peer = seconds(["cat"], out, copy)
+        ours = fastest(RUNS, [program, "run", file], lines, out)
+        peer = fastest(RUNS, ["cat"], out, copy)
         size = os.path.getsize(out)
     print(f"{NODES} nodes, {LINES} lines, {size} bytes of output")
     print(f"run: {ours:.2f} s, {LINES / ours:.0f} lines a second")

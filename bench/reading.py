@@ -8,10 +8,9 @@ ninja is missing the ratio is left out.
 """
 import os
 import shutil
-import subprocess
-import sys
 import tempfile
-import time
+
+from running import built_program, fastest
 
 RUNS = 5
 
@@ -39,23 +38,8 @@ def ninja_file(statements):
     return "\n".join(lines) + "\n"
 
 
-def seconds(words, cwd):
-    best = None
-    for _ in range(RUNS):
-        start = time.perf_counter()
-        run = subprocess.run(words, cwd=cwd, stdin=subprocess.DEVNULL, stdout=subprocess.DEVNULL, check=False)
-        took = time.perf_counter() - start
-        if run.returncode != 0:
-            sys.exit(f"{words[0]} ended with status {run.returncode}")
-        best = took if best is None else min(best, took)
-    return best
-
-
 def main():
-    top = os.path.dirname(os.path.dirname(os.path.abspath(__file__)))
-    program = os.path.join(top, "crates", "current_cli", "out", "current_cli")
-    if not os.path.exists(program):
-        sys.exit("build it first: (cd crates/current_cli && rt run)")
+    program = built_program()
     for name, lines in (("texts", texts()), ("terms", terms())):
         with tempfile.TemporaryDirectory() as folder:
             file = os.path.join(folder, "p")
@@ -63,10 +47,10 @@ def main():
                 f.write("\n".join(lines) + "\n")
             with open(os.path.join(folder, "build.ninja"), "w", encoding="utf-8") as f:
                 f.write(ninja_file(len(lines) - 1))
-            ours = seconds([program, "run", file], folder)
+            ours = fastest(RUNS, [program, "run", file])
             said = f"{name}: {os.path.getsize(file)} bytes, {len(lines) - 1} statements, {ours * 1000:.1f} ms"
             if shutil.which("ninja"):
-                peer = seconds(["ninja", "-n"], folder)
+                peer = fastest(RUNS, ["ninja", "-n"], folder=folder)
                 said += f"; ninja -n {peer * 1000:.1f} ms, ratio {ours / peer:.2f}"
             print(said)
 
