@@ -1,4 +1,4 @@
--- What is known of the tokens of bytes: names are in form, texts are within their limit, numbers have 64 bits, and all texts together are no longer than the bytes.
+-- What is known of the tokens of bytes: names are in form, texts are UTF-8 without NUL and within their limit, numbers have 64 bits, and all texts together are no longer than the bytes.
 use Rattle.std.proofs.Common.{◌≡◌, ℕ, zero, suc, ◌+◌, ◌-◌, ◌<◌, ◌≤◌, Bool, true, false, cond, List, [], ◌∷◌, ◌++◌, length, drop, refl, arith}
 use Rattle.std.specs.Prelude.{◌==◌, ◌&&◌, nat_lt, nat_le, take, Option, Some, None, Result, Ok, Err, ◌||◌, ◌^◌, not}
 use Rattle.std.specs.List.{AllByRecursion, list_all, prefix_len}
@@ -17,17 +17,20 @@ use Rattle.value_core.specs.declared.strings.Step.{Step}
 use Rattle.value_core.specs.declared.strings.Step.TheVariants.{Ends, Adds, Turns, Wrong}
 use Rattle.value_core.specs.declared.lexing.Placed.{Placed}
 use Rattle.value_core.specs.declared.lexing.Tokens.{Tokens}
+use Rattle.value_core.specs.Texts.{no_nul}
 use Rattle.value_core.specs.Strings.{step, with_byte, later, go_on, body_at}
 use Rattle.value_core.specs.Tokens.{is_mark, is_letter, is_word_byte, gap, number_of, number_token, word_token, sized, string_at, token_at, found_at, next_at}
 use Rattle.value_core.specs.Lexing.{lexed_next, lexed_from, lexed}
 use Rattle.value_core.specs.Literals.{kinds}
+use Rattle.value_core.proofs.Scans.{body_no_nul}
 use Rattle.term_core.specs.Limits.{is_name, is_text}
 
--- a name in form, a text within the limit, a number of 64 bits
+-- a name in form, a text as it may be within the limit, a number of 64 bits, a mark
 abbrev pub IsGood : Token → Type 0
 IsGood (Name n) = is_name n ≡ true
-IsGood (Words t) = is_text t ≡ true
+IsGood (Words t) = (is_text t ≡ true) × (is_utf8 t ≡ true) × (no_nul t ≡ true)
 IsGood (Number n) = nat_lt n (2 ^ 64) ≡ true
+IsGood (Mark b) = is_mark b ≡ true
 IsGood k = Unit {0}
 
 -- at most how many bytes a token takes: a text stands in quotes
@@ -79,14 +82,14 @@ body_ended m (b ∷ bs) = step_ended (length bs) (step m b) (λ n. body_at n bs)
 at_most : (n m : ℕ) → nat_lt n m ≡ false → nat_le m n ≡ true
 at_most n m e = grind (arith, nat_tests)
 
-text_fine : (text : List ℕ) (n most : ℕ) (utf8 long : Bool) → nat_lt 65536 (length text) ≡ long → length text + 1 ≤ n → n ≤ most → Fine (suc most) (sized (cond utf8 (Some (cond long LongText (Words text))) None) (n + 1))
-text_fine text n most true true e h k = (tt, omega arith, omega (arith, k))
-text_fine text n most true false e h k = (at_most 65536 (length text) e, omega (arith, h), omega (arith, k))
-text_fine text n most false long e h k = tt
+text_fine : (text : List ℕ) (n most : ℕ) (utf8 long : Bool) → is_utf8 text ≡ utf8 → nat_lt 65536 (length text) ≡ long → no_nul text ≡ true → length text + 1 ≤ n → n ≤ most → Fine (suc most) (sized (cond utf8 (Some (cond long LongText (Words text))) None) (n + 1))
+text_fine text n most true true u e clean h k = (tt, omega arith, omega (arith, k))
+text_fine text n most true false u e clean h k = ((at_most 65536 (length text) e, u, clean), omega (arith, h), omega (arith, k))
+text_fine text n most false long u e clean h k = tt
 
-string_fine : (most : ℕ) (o : Option (List ℕ × ℕ)) → Ended most o → Fine (suc most) (string_at o)
-string_fine most None h = tt
-string_fine most (Some x) (h, k) = text_fine x.0 x.1 most (is_utf8 x.0) (nat_lt 65536 (length x.0)) refl h k
+string_fine : (most : ℕ) (o : Option (List ℕ × ℕ)) → ((t : List ℕ) (n : ℕ) → o ≡ Some (t, n) → no_nul t ≡ true) → Ended most o → Fine (suc most) (string_at o)
+string_fine most None clean h = tt
+string_fine most (Some x) clean (h, k) = text_fine x.0 x.1 most (is_utf8 x.0) (nat_lt 65536 (length x.0)) refl refl (clean x.0 x.1 refl) h k
 
 -- ---- words
 
@@ -140,9 +143,9 @@ word_fine (b ∷ bs) n most e some h = name_fine b bs n most (is_letter b) (nat_
 token_fine : (bs : List ℕ) → Fine (length bs) (token_at bs)
 token_fine [] = tt
 token_fine (b ∷ bs) =
-    if_fine (length (b ∷ bs)) (is_mark b) _ _ (λ e. (tt, omega arith, omega arith))
+    if_fine (length (b ∷ bs)) (is_mark b) _ _ (λ e. (e, omega arith, omega arith))
     (if_fine (length (b ∷ bs)) (is_word_byte b) _ _ (λ e. word_fine (take (prefix_len is_word_byte (b ∷ bs)) (b ∷ bs)) (prefix_len is_word_byte (b ∷ bs)) (length (b ∷ bs)) (prefix_all is_word_byte (b ∷ bs)) (prefix_some is_word_byte b bs e) (prefix_len-le-length is_word_byte (b ∷ bs)))
-    (if_fine (length (b ∷ bs)) (b == 34) _ _ (λ e. string_fine (length bs) (body_at Plain bs) (body_ended Plain bs)) tt))
+    (if_fine (length (b ∷ bs)) (b == 34) _ _ (λ e. string_fine (length bs) (body_at Plain bs) (body_no_nul Plain bs) (body_ended Plain bs)) tt))
 
 -- ---- all tokens
 
@@ -186,6 +189,10 @@ pub record Good (ks : List Token) : Type 0 where
   pub each : AllByRecursion IsGood ks
   pub small : bytes_in ks ≤ 1048576
 
+-- bytes of whatever number have tokens in form
+pub all_good : (bytes : List ℕ) → AllByRecursion IsGood (kinds (lexed bytes).tokens)
+all_good bytes = (lexed_fine bytes).0
+
 pub good_tokens : (bytes : List ℕ) → length bytes ≤ 1048576 → Good (kinds (lexed bytes).tokens)
 good_tokens bytes few = let f = lexed_fine bytes in let h = f.1 in record { each = f.0; small = omega (arith, h, few) }
 
@@ -193,19 +200,19 @@ pub bytes_append : (ks ls : List Token) → bytes_in (ks ++ ls) ≡ bytes_in ks 
 bytes_append [] ls = omega arith
 bytes_append (k ∷ ks) ls = let e = bytes_append ks ls in omega (arith, e)
 
-each_left : (ks ls : List Token) → AllByRecursion IsGood (ks ++ ls) → AllByRecursion IsGood ks
-each_left [] ls h = tt
-each_left (k ∷ ks) ls (one, h) = (one, each_left ks ls h)
+pub each_left : (P : Token → Type 0) (ks ls : List Token) → AllByRecursion P (ks ++ ls) → AllByRecursion P ks
+each_left P [] ls h = tt
+each_left P (k ∷ ks) ls (one, h) = (one, each_left P ks ls h)
 
-each_right : (ks ls : List Token) → AllByRecursion IsGood (ks ++ ls) → AllByRecursion IsGood ls
-each_right [] ls h = h
-each_right (k ∷ ks) ls (one, h) = each_right ks ls h
+pub each_right : (P : Token → Type 0) (ks ls : List Token) → AllByRecursion P (ks ++ ls) → AllByRecursion P ls
+each_right P [] ls h = h
+each_right P (k ∷ ks) ls (one, h) = each_right P ks ls h
 
 pub good_left : (ks ls : List Token) → Good (ks ++ ls) → Good ks
-good_left ks ls g = let e = bytes_append ks ls in let h = g.small in record { each = each_left ks ls g.each; small = omega (arith, e, h) }
+good_left ks ls g = let e = bytes_append ks ls in let h = g.small in record { each = each_left IsGood ks ls g.each; small = omega (arith, e, h) }
 
 pub good_right : (ks ls : List Token) → Good (ks ++ ls) → Good ls
-good_right ks ls g = let e = bytes_append ks ls in let h = g.small in record { each = each_right ks ls g.each; small = omega (arith, e, h) }
+good_right ks ls g = let e = bytes_append ks ls in let h = g.small in record { each = each_right IsGood ks ls g.each; small = omega (arith, e, h) }
 
 pub good_rest : (k : Token) (ks : List Token) → Good (k ∷ ks) → Good ks
 good_rest k ks g = let h = g.small in record { each = g.each.1; small = omega (arith, h) }

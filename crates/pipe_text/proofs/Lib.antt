@@ -19,3 +19,10 @@ pub mod TermFaults
 pub mod FileLocals
 pub mod FirstFault
 pub mod Again
+pub mod Printings
+pub mod TermTokens
+pub mod ByKind
+pub mod DeclTokens
+pub mod Lexemes
+pub mod PrintedLines
+pub mod PrintedFile

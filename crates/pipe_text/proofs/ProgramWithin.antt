@@ -430,6 +430,7 @@ made_within v ds within few few_terms apart = record {
 
 -- A program that some bytes stand for is within the limits.
 pub standing_within : (bytes : List ℕ) (p : Program) → StandsFor bytes p → IsWithinLimits p
-standing_within bytes p s =
-    let good = subst Good s.spelled.2 (good_tokens bytes s.few_bytes) in
+standing_within bytes p stands =
+    let s = stands.spelling in
+    let good = subst Good s.spelled.2 (good_tokens bytes stands.few_bytes) in
     subst IsWithinLimits (sym s.is) (made_within s.version s.declarations (all_within s.version s.declarations s.spelled.1 s.spelled.3 (good_rest _ _ (good_rest _ _ good))) s.few s.few_terms s.apart)

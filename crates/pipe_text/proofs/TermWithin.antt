@@ -66,7 +66,7 @@ name_good n (Mark m) e g = absurd e
 name_good n LongText e g = absurd e
 
 pub text_good : (t : List ℕ) (k : Token) → TextIs file_limits t k → IsGood k → fits_text t ≡ true
-text_good t (Words m) e g = rw e g
+text_good t (Words m) e g = rw e g.0
 text_good t LongText (long, none) g = absurd cc
 text_good t (Name m) e g = absurd e
 text_good t (Number m) e g = absurd e

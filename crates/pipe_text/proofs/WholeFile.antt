@@ -20,7 +20,7 @@ use Rattle.pipe_text.specs.declared.fault.Fault.{Fault}
 use Rattle.pipe_text.specs.declared.fault.LimitName.TheVariants as limit
 use Rattle.pipe_text.specs.Grammar.{Limits}
 use Rattle.pipe_text.specs.FileGrammar.{DeclareAll, FileSpells}
-use Rattle.pipe_text.specs.Standing.{Reads, file_limits, StandsFor, program_of}
+use Rattle.pipe_text.specs.Standing.{Reads, file_limits, IsSpelled, StandsFor, program_of}
 use Rattle.pipe_text.specs.Readers.{give, seq, keyword_at}
 use Rattle.pipe_text.specs.TermReading.{beyond}
 use Rattle.pipe_text.specs.FileReading.{Bounds, file_bounds, version_choice, version_at, all_at, made, program_at, read_of, told}
@@ -131,17 +131,17 @@ unfolding read_of
 read_stands bytes p e =
     let parts = if_else (nat_lt 1048576 (length bytes)) (beyond limit.File 0) (program_at file_bounds (lexed bytes).stop (lexed bytes).tokens) p e in
     let read = file_found file_bounds (lexed bytes).stop (lexed bytes).tokens p parts.1 in
-    record {
+    let spelling : IsSpelled bytes p = record {
       version = read.version;
       declarations = read.declarations;
-      few_bytes = at_most 1048576 (length bytes) parts.0;
       ended = read.ended ∙ ap stop.End (lexed_end bytes read.place read.ended);
       spelled = read.spelled;
       is = read.is;
       few = read.sound.few;
       few_terms = read.sound.terms;
       apart = read.sound.apart refl;
-    }
+    } in
+    record { few_bytes = at_most 1048576 (length bytes) parts.0; spelling = spelling }
 
 -- ---- what stands there is read
 
@@ -159,9 +159,10 @@ not_more n m h = grind (arith, nat_tests)
 
 pub standing_read : (bytes : List ℕ) (p : Program) → StandsFor bytes p → read_of bytes ≡ Ok p
 unfolding read_of
-standing_read bytes p s =
+standing_read bytes p stands =
+    let s = stands.spelling in
     let sound : Sound file_bounds s.declarations = record { few = s.few; terms = s.few_terms; apart = λ e. s.apart } in
-    rw (not_more 1048576 (length bytes) s.few_bytes, s.ended, s.is) (file_read file_limits 64 file_bounds s.version s.declarations (length bytes) (lexed bytes).tokens (under_refl file_limits) (omega arith) s.spelled sound)
+    rw (not_more 1048576 (length bytes) stands.few_bytes, s.ended, s.is) (file_read file_limits 64 file_bounds s.version s.declarations (length bytes) (lexed bytes).tokens (under_refl file_limits) (omega arith) s.spelled sound)
 
 pub one_program : (bytes : List ℕ) (p q : Program) → read_of bytes ≡ Ok p → StandsFor bytes q → p ≡ q
 one_program bytes p q e s = ok_is p q (sym e ∙ standing_read bytes q s)

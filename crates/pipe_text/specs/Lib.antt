@@ -8,3 +8,4 @@ pub mod TermReading
 pub mod FileReading
 pub mod Looking
 pub mod Firsts
+pub mod Printing

@@ -130,17 +130,26 @@ limit_of decl.Node = limit.Nodes
 abbrev pub file_limits : Limits
 file_limits = record { more_items = 255; more_words = 63; lifted = λ what. false }
 
--- The bytes stand for the program: they are not too many, they are tokens to their end, and the tokens spell declarations which are the program's, within the limits, no two of one kind with one name.
-pub record StandsFor (bytes : List ℕ) (p : Program) : Type 0 where
+-- The bytes spell the program: they are tokens to their end, and the tokens spell declarations which are the program's, within the limits, no two of one kind with one name.
+pub record IsSpelled (bytes : List ℕ) (p : Program) : Type 0 where
   pub version : ℕ
   pub declarations : List Declaration
-  pub few_bytes : length bytes ≤ 1048576
   pub ended : (lexed bytes).stop ≡ stop.End (length bytes)
   pub spelled : FileSpells file_limits 64 version declarations (kinds (lexed bytes).tokens)
   pub is : p ≡ program_of version declarations
   pub few : (w : DeclWord) → count_of w declarations ≤ number_of (limit_of w)
   pub few_terms : all_terms declarations ≤ 4096
   pub apart : IsDistinct same_name declarations
+
+-- The bytes stand for the program: they are not too many, and spell it.
+pub record StandsFor (bytes : List ℕ) (p : Program) : Type 0 where
+  pub few_bytes : length bytes ≤ 1048576
+  pub spelling : IsSpelled bytes p
+
+-- A program that the grammar can give: some bytes, of whatever number, spell it.
+pub record IsGiven (p : Program) : Type 0 where
+  pub bytes : List ℕ
+  pub spelling : IsSpelled bytes p
 
 -- What was read is the program, unless memory ran out: it was not refused.
 abbrev pub Reads : Result Program ReadFault → Program → Type 0

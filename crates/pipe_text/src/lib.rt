@@ -1,4 +1,5 @@
-//! Pipeline files: reading the program that a file's bytes stand for, or the first fault.
+//! Pipeline files: reading the program that a file's bytes stand for, or the first fault, and
+//! printing a program as such a file.
 //!
 //! The grammar and its limits stand in specs/Grammar.antt, specs/FileGrammar.antt and
 //! specs/Standing.antt, as relations between tokens and programs. `taking`, `literals`, `terms`,
@@ -9,10 +10,13 @@
 mod declaration;
 mod declarations;
 mod details;
+#[cfg(test)]
+mod examples;
 mod fault;
 mod literals;
 mod names;
 mod pipeline;
+mod printing;
 mod taking;
 mod terms;
 #[cfg(test)]
@@ -21,3 +25,4 @@ mod words;
 
 pub use fault::{LimitName, ReadFault};
 pub use pipeline::read_pipeline;
+pub use printing::print_pipeline;

@@ -1,4 +1,4 @@
-use crate::{LimitName, ReadFault, read_pipeline};
+use crate::{LimitName, ReadFault, print_pipeline, read_pipeline};
 use op_keys::Expiry;
 use std::alloc::{AllocError, Global};
 use std::test::Fail;
@@ -205,5 +205,55 @@ fn each_declaration_and_term_is_read(rt: HostRuntime) -> Result<(), Fail> {
         assert_eq!(rt; op.expiry, *expiry);
     }
     assert_eq!(rt; LimitName::ValidFor.word(), "valid_for");
+    Ok(())
+}
+
+/// A file of one input and two nodes, as it is printed.
+const SMALL: &str = "pipeline 1
+input head text \"a\"
+node tip (input head)
+node both (pair (node tip) (return 7))
+";
+
+/// What the program of `EACH` is printed as.
+const EACH_PRINTED: &str = "pipeline 2
+input t text \"a\" watch \"f\"
+input n num 7
+input l list [\"a\", \"b\"]
+input e list []
+pool p hold 86400000
+client c p 1000
+worker w p 8
+op a build pool p client c cost 20 5 hint \"h\" urgent level harmless valid_for 9 latched no_cancel run \"a\" \"b\"
+op d build pool p client c cost 0 0 schedule daily 1439 west 1080 run \"d\"
+op m build pool p client c cost 0 0 schedule monthly 28 0 east 60 run \"m\"
+op o output pool p client c cost 1 1 no_cancel run \"o\"
+node x (all (return \"s\") (return 1) (return unit) (return [\"a\"]) (fail num \"m\") (input t) (var v))
+node y (bind b (map trim (input t)) (pair (var b) (node x)))
+node z (gate (list_iter i (input l) (build a (var i))) (list_map i (input l) (var i)))
+node q (all (catch (output o (var b) (var b))) (state (node x)))
+";
+
+/// A level that is average and an offset of 0 to the west, with declarations in another order.
+const LOOSE: &str = "pipeline 2 node n(all) # none
+op z build pool p client c cost 0 0 level average schedule daily 0 west 0 run \"\\x7f\\n\"
+pool p hold 0";
+
+const LOOSE_PRINTED: &str = "pipeline 2
+pool p hold 0
+op z build pool p client c cost 0 0 schedule daily 0 east 0 run \"\\x7f\\n\"
+node n (all)
+";
+
+/// A file, and what its program is printed as.
+const PRINTED: [(&str, &str); 3] = [(SMALL, SMALL), (EACH, EACH_PRINTED), (LOOSE, LOOSE_PRINTED)];
+
+#[test]
+fn programs_are_printed_a_declaration_a_line(rt: HostRuntime) -> Result<(), Fail> {
+    for (file, wanted) in PRINTED {
+        let program = read_pipeline(rt.alloc(), file.as_bytes())?;
+        let printed = print_pipeline(rt.alloc(), &program)?;
+        assert!(rt; printed.as_slice() == wanted.as_bytes(), "{file}");
+    }
     Ok(())
 }
