@@ -16,9 +16,13 @@ use Rattle.term_check.specs.Faults.{check_fault, Tells, IsFirstFault}
 use Rattle.term_check.specs.declared.fault.CheckWhat.{CheckWhat}
 use Rattle.term_check.specs.declared.fault.CheckWhat.TheVariants as what
 use Rattle.term_check.specs.declared.fault.CheckFault.{CheckFault}
+use Rattle.term_check.specs.Reports.{report_of}
+use Rattle.report_text.specs.Reports.{report_text}
 use Rattle.current_cli.specs.Cores.{IsNumbered}
-use Rattle.current_cli.specs.Refusals.{error_line, check_text}
-use Rattle.current_cli.specs.Plans.{Task, wrong_words, no_file, refused_file, session_of, IsTaskOfContent, IsRefused, unread, unsound, unbuilt, is_built, is_no_memory, task_of_sound, task_of_checked, task_of_read, task_of}
+use Rattle.current_cli.specs.Refusals.{error_line}
+use Rattle.current_cli.specs.declared.words.Command.{Command}
+use Rattle.current_cli.specs.declared.words.Command.TheVariants.{Run, Check}
+use Rattle.current_cli.specs.Plans.{Task, wrong_words, no_file, refused_file, session_of, reported_file, IsTaskOfContent, IsRefused, unread, unsound, unbuilt, is_built, is_no_memory, task_of_sound, task_of_checked, task_of_read, task_of}
 
 -- ---- the two ways of saying it
 
@@ -26,22 +30,32 @@ pipeline_ok : (bytes : List ℕ) (p : Program) → StandsFor bytes p → pipelin
 unfolding pipeline_of
 pipeline_ok bytes p stands = ap told_of (standing_read bytes p stands)
 
-sound_task : (p : Program) (b : Bool) → is_built p ≡ b → task_of_sound p ≡ (if b then session_of p else refused_file (error_line (codes "not built")))
+sound_task : (p : Program) (b : Bool) → is_built p ≡ b → task_of_sound Run p ≡ (if b then session_of p else refused_file (error_line (codes "not built")))
 sound_task p b e = ap (λ (c : Bool). if c then session_of p else refused_file (error_line (codes "not built"))) e
 
-of_sound : (content : List ℕ) (p : Program) (b : Bool) → StandsFor content p → IsSound p → is_built p ≡ b → task_of content ≡ (if b then session_of p else refused_file (error_line (codes "not built")))
-of_sound content p b stands sound e = ap task_of_read (pipeline_ok content p stands) ∙ (ap (task_of_checked p) (faultless p sound) ∙ sound_task p b e)
+of_sound : (command : Command) (content : List ℕ) (p : Program) → StandsFor content p → IsSound p → task_of command content ≡ task_of_sound command p
+of_sound command content p stands sound = ap (task_of_read command) (pipeline_ok content p stands) ∙ ap (task_of_checked command p) (faultless p sound)
 
-refusal_is : (content why : List ℕ) → IsRefused content why → refused_file (error_line why) ≡ task_of content
-refusal_is content why (unread f e) = sym (ap task_of_read e)
-refusal_is content why (unsound p f stands e) = sym (ap task_of_read (pipeline_ok content p stands) ∙ ap (task_of_checked p) e)
-refusal_is content why (unbuilt p stands sound e) = sym (of_sound content p false stands sound e)
+of_run : (content : List ℕ) (p : Program) (b : Bool) → StandsFor content p → IsSound p → is_built p ≡ b → task_of Run content ≡ (if b then session_of p else refused_file (error_line (codes "not built")))
+of_run content p b stands sound e = of_sound Run content p stands sound ∙ sound_task p b e
 
-pub asked_is : (content : List ℕ) (task : Task) → IsTaskOfContent content task → task ≡ task_of content
-asked_is content wrong_words t = absurd t
-asked_is content no_file t = absurd t
-asked_is content (refused_file line) t = ap refused_file t.1 ∙ refusal_is content t.0 t.2
-asked_is content (session_of p) t = sym (of_sound content p true t.0 t.1 t.2)
+as_run : (command : Command) (content : List ℕ) (task : Task) → command ≡ Run → task_of Run content ≡ task → task ≡ task_of command content
+as_run command content task is e = sym (ap (λ (c : Command). task_of c content) is ∙ e)
+
+refusal_is : (command : Command) (content why : List ℕ) → IsRefused command content why → refused_file (error_line why) ≡ task_of command content
+refusal_is command content why (unread f e) = sym (ap (task_of_read command) e)
+refusal_is command content why (unsound p f stands e) = sym (ap (task_of_read command) (pipeline_ok content p stands) ∙ ap (task_of_checked command p) e)
+refusal_is command content why (unbuilt p is stands sound e) = as_run command content (refused_file (error_line (codes "not built"))) is (of_run content p false stands sound e)
+
+report_is : (command : Command) (content text : List ℕ) (p : Program) → command ≡ Check → StandsFor content p → IsSound p → text ≡ report_text p (report_of p) → reported_file text ≡ task_of command content
+report_is command content text p is stands sound e = ap reported_file e ∙ sym (of_sound command content p stands sound ∙ ap (λ (c : Command). task_of_sound c p) is)
+
+pub asked_is : (command : Command) (content : List ℕ) (task : Task) → IsTaskOfContent command content task → task ≡ task_of command content
+asked_is command content wrong_words t = absurd t
+asked_is command content no_file t = absurd t
+asked_is command content (refused_file line) t = ap refused_file t.1 ∙ refusal_is command content t.0 t.2
+asked_is command content (session_of p) t = as_run command content (session_of p) t.0 (of_run content p true t.1 t.2 t.3)
+asked_is command content (reported_file text) t = report_is command content text t.0 t.1 t.2 t.3 t.4
 
 -- ---- contents beyond the limit
 
@@ -81,5 +95,5 @@ told what.ListNesting A unlike t = t
 told (what.KindTooLarge n) A unlike t = t
 told what.NoMemory A unlike t = absurd cc
 
-pub faulty_task : (p : Program) (f : CheckFault) (line : List ℕ) → is_no_memory f.what ≡ false → IsFirstFault p f → line ≡ error_line (check_text p f) → refused_file line ≡ task_of_checked p (check_fault p)
-faulty_task p f line unlike first is = ap refused_file is ∙ sym (ap (task_of_checked p) (told f.what (check_fault p ≡ Some f) unlike first))
+pub first_fault : (p : Program) (f : CheckFault) → is_no_memory f.what ≡ false → IsFirstFault p f → check_fault p ≡ Some f
+first_fault p f unlike first = told f.what (check_fault p ≡ Some f) unlike first

@@ -1,5 +1,6 @@
 pub mod Controls
 pub mod Refusals
+pub mod Words
 pub mod Plans
 pub mod Versions
 pub mod Cores

@@ -1,6 +1,5 @@
 -- Why a file is refused, in words.
-use Rattle.std.specs.Prelude.{ℕ, List, [], ◌++◌, codes, decimal, slice_get}
-use Rattle.std.specs.Option.{option_map_or}
+use Rattle.std.specs.Prelude.{ℕ, List, [], ◌++◌, codes, decimal}
 use Rattle.pipe_text.specs.LimitTable.{limit_letters}
 use Rattle.pipe_text.specs.declared.fault.ReadFault.{ReadFault}
 use Rattle.pipe_text.specs.declared.fault.ReadFault.TheVariants as read
@@ -13,6 +12,7 @@ use Rattle.term_check.specs.declared.fault.CheckWhat.TheVariants as what
 use Rattle.term_check.specs.declared.fault.FaultPlace.{FaultPlace}
 use Rattle.term_check.specs.declared.fault.FaultPlace.TheVariants as place
 use Rattle.term_core.specs.declared.program.Program.{Program}
+use Rattle.report_text.specs.Reports.{name_at}
 
 -- the line of a refusal
 abbrev pub error_line : List ℕ → List ℕ
@@ -25,10 +25,6 @@ read_text (read.Syntax p) = codes "syntax at " ++ decimal p
 read_text (read.Limit name n p) = codes "limit " ++ (limit_letters name ++ (codes " " ++ (decimal n ++ (codes " at " ++ decimal p))))
 read_text (read.Duplicate name p) = codes "duplicate " ++ (name ++ (codes " at " ++ decimal p))
 read_text read.NoMemory = []
-
--- the name of a declaration, by its number
-abbrev pub name_at : {D : Type 0} → (D → List ℕ) → List D → ℕ → List ℕ
-name_at name ds n = option_map_or name (slice_get ds n) []
 
 -- the declaration in which a fault is
 unfoldable pub place_text : Program → FaultPlace → List ℕ

@@ -1,7 +1,8 @@
 //! The lines of refused files.
 ghost use Rattle.std.specs.Prelude.{◌≡◌, ◌++◌, IfOk, OnOk, codes};
 ghost use Rattle.std.specs.String.{string_bytes};
-ghost use Rattle.current_cli.specs.Refusals.{check_text, error_line, found_text, name_at, other_text, place_text, read_text, what_text};
+ghost use Rattle.report_text.specs.Reports.{name_at};
+ghost use Rattle.current_cli.specs.Refusals.{check_text, error_line, found_text, other_text, place_text, read_text, what_text};
 
 use pipe_text::ReadFault;
 use std::alloc::Global;

@@ -7,6 +7,22 @@ use std::test::Fail;
 const FIRST: &str =
     "pipeline 1\ninput head text \"a\"\nnode tip (input head)\nnode both (pair (node tip) (return 7))\n";
 
+/// A pipeline with operations, a watched input and a body.
+const REALISTIC: &str = "pipeline 1
+# one repository
+input branches text \"main\\ndev\" watch \"branches.txt\"
+pool linux hold 60000
+client ci linux 4
+worker w1 linux 2
+op compile build pool linux client ci cost 20 5 hint \"src\" run \"make\" \"{key}\"
+op test build pool linux client ci cost 10 5 hint \"src\" run \"check\" \"{key}\"
+op deploy output pool linux client ci cost 1 1 level dangerous run \"deploy\" \"{key}\" \"{value}\"
+node names (map lines (input branches))
+node built (list_map b (node names) (bind img (build compile (var b)) (pair (var b) (var img))))
+node tested (list_iter b (node names) (map equal (pair (build test (var b)) (return \"pass\"))))
+node ship (bind img (gate (node tested) (build compile (return \"main\"))) (output deploy (return \"prod\") (var img)))
+";
+
 const OPENING: &str = "version 1\ntip: ok \"a\"\nboth: ok (\"a\", 7)\n";
 
 /// What a run wrote, and its status.
@@ -98,9 +114,34 @@ fn a_session_prints_its_versions(rt: HostRuntime) -> Result<(), Fail> {
 }
 
 #[test]
+fn a_check_prints_its_report(rt: HostRuntime) -> Result<(), Fail> {
+    let nothing = "inputs: none\noperations: none\ngreatest level: none\ndynamic: no\n";
+    let table = [
+        (
+            REALISTIC,
+            "inputs: branches\noperations: compile test deploy\ngreatest level: dangerous\ndynamic: yes\n",
+        ),
+        ("pipeline 1", nothing),
+        ("pipeline 1\ninput t text \"a\" watch \"t.txt\"", nothing),
+    ];
+    for (file, expected) in table {
+        let outcome = run(rt.alloc(), &["check", "p"], file, b"", NONE)?;
+        assert_eq!(rt; outcome.status, 0, "{file}");
+        assert_eq!(rt;
+            str::from_utf8(outcome.written.as_slice())?,
+            expected,
+            "{file}"
+        );
+    }
+    Ok(())
+}
+
+#[test]
 fn a_refusal_prints_its_line(rt: HostRuntime) -> Result<(), Fail> {
-    let table: [(&[&str], &str, u8, &str); 5] = [
+    let table: [(&[&str], &str, u8, &str); 7] = [
         (&["run", "q"], FIRST, 2, "error: no file\n"),
+        (&["check", "q"], FIRST, 2, "error: no file\n"),
+        (&["check"], FIRST, 2, "error: usage\n"),
         (&["run", ""], FIRST, 2, "error: usage\n"),
         (&["run"], FIRST, 2, "error: usage\n"),
         (&["walk", "p"], FIRST, 2, "error: usage\n"),
@@ -138,18 +179,29 @@ fn a_refused_file_has_the_line_of_its_first_fault(rt: HostRuntime) -> Result<(),
         ),
         ("pipeline 1\nnode n (node n)", "error: node n: forward n\n"),
         ("pipeline 1\nworker w p 1", "error: worker w: unknown p\n"),
-        (
-            "pipeline 1\ninput t text \"a\" watch \"t.txt\"",
-            "error: not built\n",
-        ),
     ];
     for (file, expected) in table {
+        for command in ["run", "check"] {
+            let outcome = run(rt.alloc(), &[command, "p"], file, b"", NONE)?;
+            assert_eq!(rt; outcome.status, 3, "{command} {file}");
+            assert_eq!(rt;
+                str::from_utf8(outcome.written.as_slice())?,
+                expected,
+                "{command} {file}"
+            );
+        }
+    }
+    Ok(())
+}
+
+#[test]
+fn what_cannot_be_run_yet_is_told(rt: HostRuntime) -> Result<(), Fail> {
+    for file in [REALISTIC, "pipeline 1\ninput t text \"a\" watch \"t.txt\""] {
         let outcome = run(rt.alloc(), &["run", "p"], file, b"", NONE)?;
         assert_eq!(rt; outcome.status, 3, "{file}");
         assert_eq!(rt;
             str::from_utf8(outcome.written.as_slice())?,
-            expected,
-            "{file}"
+            "error: not built\n"
         );
     }
     Ok(())
@@ -235,9 +287,15 @@ fn a_fault_of_an_end_has_its_status(rt: HostRuntime) -> Result<(), Fail> {
         files: &[1],
         ..NONE
     };
-    let outcome = run(rt.alloc(), &["run", "p"], FIRST, b"", files)?;
-    assert_eq!(rt; outcome.status, 4);
-    assert!(rt; outcome.written.is_empty());
+    for command in ["run", "check"] {
+        let outcome = run(rt.alloc(), &[command, "p"], FIRST, b"", files)?;
+        assert_eq!(rt; outcome.status, 4, "{command}");
+        assert!(rt; outcome.written.is_empty(), "{command}");
+    }
+    let sink = Fails { sink: &[2], ..NONE };
+    let outcome = run(rt.alloc(), &["check", "p"], FIRST, b"", sink)?;
+    assert_eq!(rt; outcome.status, 5);
+    assert_eq!(rt; str::from_utf8(outcome.written.as_slice())?, "input");
     Ok(())
 }
 

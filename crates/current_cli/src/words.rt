@@ -1,18 +1,45 @@
 //! The words of the command line.
 ghost use Rattle.std.specs.Prelude.{◌≡◌, None, Some, MatchOption};
-ghost use Rattle.current_cli.specs.Top.{file_of};
+ghost use Rattle.current_cli.specs.Words.{command_named, request_of};
 
-/// The file that the words name: they are `run FILE`, and the file isn't empty.
-pub(crate) fn file_of(words: &[String]) -> Option<&str>
-    ensures { MatchOption result (file_of words.now ≡ None) (λ path. file_of words.now ≡ Some path.now) }
+/// What is done with a file.
+#[derive(Clone, Copy, Debug, PartialEq, Eq)]
+pub(crate) enum Command {
+    Run,
+    Check,
+}
+
+/// A command with its file.
+#[derive(Clone, Copy)]
+pub(crate) struct Request<'a> {
+    pub(crate) command: Command,
+    pub(crate) path: &'a str,
+}
+
+fn command_named(word: &str) -> Option<Command>
+    ensures { result ≡ command_named word.now }
+{
+    if word == "run" {
+        Some(Command::Run)
+    } else if word == "check" {
+        Some(Command::Check)
+    } else {
+        None
+    }
+}
+
+/// What the words ask for: they are `run FILE` or `check FILE`, and the file isn't empty.
+pub(crate) fn request_of(words: &[String]) -> Option<Request<'_>>
+    ensures { MatchOption result (request_of words.now ≡ None) (λ r. request_of words.now ≡ Some (r.command, r.path.now)) }
 {
     match words {
         [command, path] => {
-            if command.as_str() == "run" && !path.is_empty() {
-                Some(path.as_str())
-            } else {
-                None
+            if path.is_empty() {
+                return None;
             }
+            let command = command_named(command.as_str())?;
+            let path = path.as_str();
+            Some(Request { command, path })
         }
         _ => None,
     }

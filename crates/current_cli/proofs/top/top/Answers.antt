@@ -11,10 +11,10 @@ returns-in-Err-NoMemory-clause-run g c = run_fault _ _ _ 7 _ (inr (inr refl)) (o
 pub returns-in-Ok-Found-clause-run : goal.returns-in-Ok-Found-clause-run
 returns-in-Ok-Found-clause-run g c =
     let read = rw c.in-Ok-Found.field-0-is at c.in-Ok-Found.ensures.content in
-    run_found _ _ _ c.in-Some.path.now c.in-Ok-Found.content _ _ _ c.in-Some.ensures read (rw c.as_slice.ensures.value at c.run.ensures.run)
+    run_found _ _ _ c.in-Some.request.command c.in-Some.request.path.now c.in-Ok-Found.content _ _ _ c.in-Some.ensures read (rw c.as_slice.ensures.value at c.perform.ensures.run)
 
 pub returns-in-Ok-Found-clause-complete : goal.returns-in-Ok-Found-clause-complete
 returns-in-Ok-Found-clause-complete g c =
     let read = rw c.in-Ok-Found.field-0-is at c.in-Ok-Found.ensures.content in
-    let run = run_found _ _ _ c.in-Some.path.now c.in-Ok-Found.content _ _ _ c.in-Some.ensures read (rw c.as_slice.ensures.value at c.run.ensures.run) in
-    completes _ _ _ c.run.result _ _ _ _ _ run (λ four. inl (c.run.ensures.read four)) c.run.ensures.write
+    let run = run_found _ _ _ c.in-Some.request.command c.in-Some.request.path.now c.in-Ok-Found.content _ _ _ c.in-Some.ensures read (rw c.as_slice.ensures.value at c.perform.ensures.run) in
+    completes _ _ _ c.perform.result _ _ _ _ _ run (λ four. inl (c.perform.ensures.read four)) c.perform.ensures.write
