@@ -193,10 +193,6 @@ lines_of p =
     (Name (codes "pipeline") ∷ Number p.version ∷ []) ∷
     (map input_tokens p.inputs ++ (map pool_tokens p.pools ++ (map client_tokens p.clients ++ (map worker_tokens p.workers ++ (map op_tokens p.ops ++ map node_tokens p.nodes)))))
 
--- all tokens of a program
-abbrev pub tokens_of_program : Program → List Token
-tokens_of_program p = flat_map (λ ks. ks) (lines_of p)
-
 -- the bytes that a program is printed as
 unfoldable pub pipeline_text : Program → List ℕ
 pipeline_text p = flat_map line_text (lines_of p)

@@ -25,4 +25,4 @@ mod words;
 
 pub use fault::{LimitName, ReadFault};
 pub use pipeline::read_pipeline;
-pub use printing::print_pipeline;
+pub use printing::{print_pipeline, word_of_level};

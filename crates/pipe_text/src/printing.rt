@@ -185,7 +185,8 @@ fn word_of_kind(kind: FailKind) -> &'static str
     }
 }
 
-fn word_of_level(level: Level) -> &'static str
+/// The word of a level in a pipeline file.
+pub fn word_of_level(level: Level) -> &'static str
     ensures { result.now ≡ level_letters level }
 {
     match level {

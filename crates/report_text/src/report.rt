@@ -1,10 +1,10 @@
 //! The lines of a report.
 ghost use Rattle.std.specs.Prelude.{◌≡◌, ◌<◌, ◌++◌, ◌∷◌, [], IfOk, OnOk, codes, length};
 ghost use Rattle.std.specs.String.{string_bytes};
-ghost use Rattle.pipe_text.specs.Words.{level_letters};
 ghost use Rattle.report_text.specs.Reports.{AreNumbersOf, level_words, line, name_at, names_at, or_none, report_text, spaced, yes_or_no};
 
 use op_keys::Level;
+use pipe_text::word_of_level;
 use std::alloc::Global;
 use term_check::Report;
 use term_core::{Named, Program};
@@ -77,26 +77,13 @@ fn write_word_line(out: &mut String, label: &str, word: &str) -> Result<(), NoMe
     out.push_str("\n")
 }
 
-/// The word of a level, as pipeline files have it.
-fn word_of(level: Level) -> &'static str
-    ensures { result.now ≡ level_letters level }
-{
-    match level {
-        Level::Harmless => "harmless",
-        Level::MostlyHarmless => "mostly_harmless",
-        Level::Average => "average",
-        Level::AboveAverage => "above_average",
-        Level::Dangerous => "dangerous",
-    }
-}
-
 /// Writes the line of the greatest level, or that there is none.
 #[tactic(auto, unfolding(crate::specs::Reports::line))]
 fn write_level_line(out: &mut String, level: Option<Level>) -> Result<(), NoMemory>
     ensures { OnOk result (string_bytes out.new ≡ string_bytes out.old ++ line (codes "greatest level") (level_words level)) }
 {
     match level {
-        Some(level) => write_word_line(out, "greatest level", word_of(level)),
+        Some(level) => write_word_line(out, "greatest level", word_of_level(level)),
         None => write_word_line(out, "greatest level", "none"),
     }
 }
