@@ -1,5 +1,10 @@
 -- Worked cases, by computation.
-use Rattle.std.specs.Prelude.{◌≡◌, ℕ, zero, suc, Bool, true, false, List, [], ◌∷◌, map, Option, Some, None, Err, codes, refl}
+use Rattle.std.specs.Prelude.{◌≡◌, ℕ, zero, suc, Bool, true, false, List, [], ◌∷◌, map, Option, Some, None, Ok, Err, codes, nat_lt, replicate, if◌then◌else◌, refl}
+use Rattle.std.proofs.Common.{ap}
+use Rattle.std.specs.Char.{encode_utf8}
+use Rattle.std.specs.Fmt.{digits}
+use Rattle.std.proofs.lemmas.List.{length-replicate}
+use Rattle.std.specs.Str.{chars, is_utf8}
 use Rattle.std.specs.FinMap.{empty}
 use Rattle.value_core.specs.declared.state.Triple.{Triple}
 use Rattle.op_keys.specs.declared.declarations.Expiry.TheVariants.{Never}
@@ -13,7 +18,7 @@ use Rattle.core_rules.specs.declared.events.What.TheVariants as what
 use Rattle.core_rules.specs.declared.jobs.Job.{Job}
 use Rattle.core_rules.specs.declared.jobs.Mark.TheVariants.{Unmarked}
 use Rattle.core_rules.specs.Core.{CoreState, without_job}
-use Rattle.core_rules.specs.Exits.{exit_outcome}
+use Rattle.core_rules.specs.Exits.{code_outcome, exit_outcome}
 use Rattle.core_rules.specs.Openings.{Durable, opened, start}
 use Rattle.core_rules.specs.Orders.{picked}
 use Rattle.core_rules.specs.Replies.{new_conflicts}
@@ -57,6 +62,25 @@ ended_by_signal = refl
 
 pub not_run : exit_outcome exit.Fault ≡ Err (codes "cannot run")
 not_run = refl
+
+-- a code of 0 with one line of text
+pub ended_well : exit_outcome (exit.Ended (Some 0) (codes "one\n")) ≡ Ok (codes "one")
+unfolding is_utf8 chars encode_utf8
+ended_well = refl
+
+-- another code
+pub ended_badly : exit_outcome (exit.Ended (Some 3) (codes "one\n")) ≡ Err (codes "exit 3")
+unfolding digits
+ended_badly = refl
+
+-- a code of 0 with a byte that begins no character
+pub ended_without_text : exit_outcome (exit.Ended (Some 0) (255 ∷ [])) ≡ Err (codes "output not text")
+unfolding is_utf8 chars encode_utf8
+ended_without_text = refl
+
+-- 65,537 bytes, whatever the code
+pub ended_too_large : (code : Option ℕ) → exit_outcome (exit.Ended code (replicate 65537 97)) ≡ Err (codes "output too large")
+ended_too_large code = ap (λ n. if nat_lt 65536 n then Err (codes "output too large") else code_outcome code (replicate 65537 97)) (length-replicate {A = ℕ} 65537 97)
 
 -- ---- a pool with one worker of capacity 1, clients of rates 1, 2 and 1000, and an operation of each, the last one urgent for the first client
 

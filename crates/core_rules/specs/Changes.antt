@@ -2,7 +2,6 @@
 use Rattle.std.specs.Prelude.{ℕ, Bool, true, false, if◌then◌else◌, List, [], ◌∷◌, map, length, Option, Some, None, is_some, slice_set, codes}
 use Rattle.std.specs.FinMap.{get, insert}
 use Rattle.value_core.specs.declared.value.Value.{Value}
-use Rattle.value_core.specs.declared.value.Kind.{Kind}
 use Rattle.value_core.specs.declared.state.Stage.{Stage}
 use Rattle.value_core.specs.declared.state.Stage.TheVariants.{Ready, Waiting, Running}
 use Rattle.value_core.specs.Printed.{printed}

@@ -11,3 +11,4 @@ pub mod Replays
 pub mod Laws
 pub mod Codes
 pub mod Parts
+pub mod Boards

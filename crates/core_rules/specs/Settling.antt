@@ -153,9 +153,13 @@ abbrev pub is_valid : CoreState → Option OpDecl → Option Row → Bool
 is_valid s d (Some r) = valid (expiry_of d) s.now r
 is_valid s d None = false
 
--- whether a triple has a valid row, or its operation and key a live job
+-- whether a row of a triple is there and valid, or its operation and key have a live job
+abbrev pub served_by : CoreState → Triple → Option Row → Bool
+served_by s t r = is_valid s (op_of s t.op) r || is_some (live_on s.jobs t.op t.key)
+
+-- the same, by the triple's own row
 abbrev pub is_served : CoreState → Triple → Bool
-is_served s t = is_valid s (op_of s t.op) (row_of s t) || is_some (live_on s.jobs t.op t.key)
+is_served s t = served_by s t (row_of s t)
 
 -- a target that isn't served gets a job; undefined where that needs the number 2^62
 abbrev pub create : CoreState → Triple → Option CoreState
