@@ -3,16 +3,14 @@
 //! This is the rules as a program, plain and slow: each call is one part of the step, over lists,
 //! and its contract is that part's definition. The crates above keep the same state in faster
 //! forms; this one shows what the definitions come to.
-ghost use Rattle.std.specs.Prelude.{◌≡◌, [], ◌∷◌, ◌++◌, map, filter, IfOk, IfSome, OnOk, OnErr, None, Some, option_map};
+ghost use Rattle.std.specs.Prelude.{◌≡◌, [], IfOk, IfSome, None, Some};
 ghost use Rattle.std.specs.Option.{option_copied};
 ghost use Rattle.sched_rows.specs.Validity.{IsInRange, IsTime, valid};
-ghost use Rattle.term_core.specs.World.{same_triple};
 ghost use Rattle.fair_pool.specs.Fair.{Fair};
-ghost use Rattle.core_rules.specs.Boards.{lesser, with_jobs, with_tickets, without_tickets, IsUsed};
-ghost use Rattle.core_rules.specs.Core.{op_of, expiry_of, may_start, goes_on, is_latched, when_allowed, stage_under, stage};
+ghost use Rattle.core_rules.specs.Boards.{with_tickets};
+ghost use Rattle.core_rules.specs.Core.{op_of, expiry_of, may_start, is_latched, when_allowed, stage_under, stage};
 ghost use Rattle.core_rules.specs.Entries.{states, wants, job_of, row_of, outcome, entry_by, entry_in};
 ghost use Rattle.core_rules.specs.Orders.{voided};
-ghost use Rattle.core_rules.specs.Settling.{is_wanted, stays, is_lost, mark_lost, newly_marked, live_on, values_on, least_value, target, is_value, targets, is_served, create, create_all, settle_for};
 ghost use Rattle.core_rules.specs.Steps.{at_time};
 
 #[cfg(test)]

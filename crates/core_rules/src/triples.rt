@@ -1,15 +1,9 @@
 //! Triples among wanted ones and live jobs.
-ghost use Rattle.std.specs.Prelude.{◌≡◌, [], ◌∷◌, ◌++◌, map, filter, IfOk, IfSome, OnOk, OnErr, None, Some, option_map};
+ghost use Rattle.std.specs.Prelude.{◌≡◌};
 ghost use Rattle.std.specs.Option.{option_copied};
-ghost use Rattle.sched_rows.specs.Validity.{IsInRange, IsTime, valid};
 ghost use Rattle.term_core.specs.World.{same_triple};
-ghost use Rattle.fair_pool.specs.Fair.{Fair};
-ghost use Rattle.core_rules.specs.Boards.{lesser, with_jobs, with_tickets, without_tickets, IsUsed};
-ghost use Rattle.core_rules.specs.Core.{op_of, expiry_of, may_start, goes_on, is_latched, when_allowed, stage_under, stage};
-ghost use Rattle.core_rules.specs.Entries.{job_of, row_of, outcome, entry_by, entry_in};
-ghost use Rattle.core_rules.specs.Orders.{voided};
-ghost use Rattle.core_rules.specs.Settling.{is_wanted, stays, is_lost, mark_lost, newly_marked, live_on, values_on, least_value, target, is_value, targets, is_served, create, create_all, settle_for};
-ghost use Rattle.core_rules.specs.Steps.{at_time};
+ghost use Rattle.core_rules.specs.Entries.{job_of};
+ghost use Rattle.core_rules.specs.Settling.{is_wanted, live_on};
 
 use crate::jobs::Job;
 use value_core::{Text, Triple};
