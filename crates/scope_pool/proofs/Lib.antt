@@ -1,0 +1,4 @@
+pub mod SlotLaws
+pub mod StandingLaws
+pub mod ScopeLaws
+pub mod Closing
