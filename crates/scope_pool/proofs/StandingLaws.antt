@@ -1,5 +1,5 @@
 -- What stands at the places, as a list and as a map.
-use Rattle.std.proofs.Common.{◌≡◌, ℕ, zero, suc, ◌+◌, ◌<◌, List, [], ◌∷◌, length, map, count_by, is_some, set, Option, Some, None, slice_index_or, true, false, cond, refl, ap, sym, ◌∙◌, arith, not, Bool, option_map, IsSome, Result, Ok, Err, OnErr}
+use Rattle.std.proofs.Common.{◌≡◌, ℕ, zero, suc, ◌+◌, ◌<◌, List, [], ◌∷◌, length, map, count_by, is_some, set, Option, Some, None, slice_index_or, true, false, cond, refl, ap, sym, ◌∙◌, arith, not, Bool, option_map, IsSome, Result, Ok, Err, OnErr, subst}
 use Rattle.std.specs.FinMap.{get, insert, len, retain_keys, get-insert, get-empty, get-retain_keys, len-empty, len-insert, same_map, nat_cmp-IsAntisymmetric, contains_key}
 use Rattle.std.specs.Ordering.{nat_cmp, eq_by_cmp}
 use Rattle.std.specs.Cmp.{nat_cmp_total}
@@ -127,6 +127,28 @@ module _ {A : Type 0} where
       standing (set xs n (option_map (with_item item) (slice_index_or xs n None))) ≡ exchanged (standing xs) n item (get (standing xs) n)
   standing_exchanged xs n item some =
       exchanged_at xs n item (slice_index_or xs n None) refl some ∙ ap (exchanged (standing xs) n item) (sym (get_standing xs n))
+
+module _ {A : Type 0} where
+  index_here : (xs : List (Option (ScopedItem A))) (n : ℕ) (x : Option (ScopedItem A)) → n < length xs → slice_index_or (set xs n x) n None ≡ x
+  index_here [] n x h = absurd (omega arith)
+  index_here (y ∷ xs) zero x h = refl
+  index_here (y ∷ xs) (suc n) x h = index_here xs n x (omega arith)
+
+  live_here : (xs : List (Option (ScopedItem A))) (n : ℕ) (x : Option (ScopedItem A)) → n < length xs → IsSome x → IsSome (get (standing (set xs n x)) n)
+  live_here xs n x h some = subst IsSome (sym (get_standing (set xs n x) n ∙ index_here xs n x h)) some
+
+  -- a place is live once an item was put there
+  pub live_put : (xs : List (Option (ScopedItem A))) (n : ℕ) (x : ScopedItem A) → n < length xs → IsSome (get (standing (set xs n (Some x))) n)
+  live_put xs n x h = live_here xs n (Some x) h refl
+
+  live_with : (xs : List (Option (ScopedItem A))) (n : ℕ) (item : A) (o : Option (ScopedItem A)) → slice_index_or xs n None ≡ o → IsSome o → IsSome (get (standing (set xs n (option_map (with_item item) o))) n)
+  live_with xs n item None e some = absurd (false-ne-true some)
+  live_with xs n item (Some x) e some = live_put xs n (with_item item x) (inside xs n x e)
+
+  -- a live place is live with another item
+  pub live_exchanged : (xs : List (Option (ScopedItem A))) (n : ℕ) (item : A) → IsSome (slice_index_or xs n None) →
+      IsSome (get (standing (set xs n (option_map (with_item item) (slice_index_or xs n None)))) n)
+  live_exchanged xs n item some = live_with xs n item (slice_index_or xs n None) refl some
 
 -- what holds anyway holds after an error
 pub any_err : {T E P : Type 0} (r : Result T E) → P → OnErr r P

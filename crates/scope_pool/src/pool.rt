@@ -130,6 +130,7 @@ impl<T: Drop> Pool<T> {
         requires open { IsOpen self.old.scopes scope.name }
         requires spare { 0 < self.old.spare_puts }
         ensures fresh { get self.old.items result.number ≡ None }
+        ensures live { IsLive self.new result.number }
         ensures put { self.new ≡ put_at self.old result.number scope.name item }
     {
         self.spare_puts -= 1;
@@ -151,6 +152,7 @@ impl<T: Drop> Pool<T> {
     pub fn set(&mut self, place: Place, item: T) -> T
         requires { IsLive self.old place.number }
         ensures old { item_at self.old place.number ≡ Some result }
+        ensures live { IsLive self.new place.number }
         ensures set { self.new ≡ set_at self.old place.number item }
     {
         exchange(&mut self.slots, place.number, item)

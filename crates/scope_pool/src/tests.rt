@@ -9,12 +9,12 @@ fn closing_gives_up_what_stands_within(rt: HostRuntime) -> Result<(), Fail> {
     let outer = pool.open_scope(None);
     let inner = pool.open_scope(Some(outer));
     let a = pool.put(outer, "a");
+    assert_eq!(rt; *pool.get(a), "a");
     pool.put(inner, "b");
     pool.put(inner, "c");
     assert_eq!(rt; pool.live(), 3);
     pool.close_scope(inner);
     assert_eq!(rt; pool.live(), 1);
-    assert_eq!(rt; *pool.get(a), "a");
     pool.close_scope(outer);
     assert_eq!(rt; pool.live(), 0);
     Ok(())
@@ -32,7 +32,8 @@ fn a_closed_scopes_place_is_used_again(rt: HostRuntime) -> Result<(), Fail> {
     pool.reserve(0, 1)?;
     let second = pool.open_scope(None);
     assert!(rt; second != first);
-    assert_eq!(rt; pool.put(second, 3), place);
-    assert_eq!(rt; *pool.get(place), 3);
+    let again = pool.put(second, 3);
+    assert_eq!(rt; again, place);
+    assert_eq!(rt; *pool.get(again), 3);
     Ok(())
 }

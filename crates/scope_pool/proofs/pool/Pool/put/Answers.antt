@@ -1,7 +1,7 @@
 use Rattle.std.proofs.Common.{◌∙◌, ◌-◌, ap, arith, map}
 use Rattle.std.proofs.lemmas.Grind.{common_steps}
 use Rattle.scope_pool.specs.Layout.{held_in, newest_first, standing}
-use Rattle.scope_pool.proofs.StandingLaws.{get_standing, standing_set}
+use Rattle.scope_pool.proofs.StandingLaws.{get_standing, live_put, standing_set}
 use Rattle.scope_pool.proofs.pool.Pool.put.Goals as goal
 
 pub invariant_of-self : goal.invariant_of-self
@@ -25,3 +25,6 @@ pub returns-clause-put : goal.returns-clause-put
 returns-clause-put g c =
     let items = ap standing c.fill.ensures.filled ∙ standing_set (map held_in c.self.inside.slots.items) c.fill.result _ (grind (arith, common_steps, c.fill.ensures.within)) in
     rw (← c.self.view_is) (λ i. record { scopes = newest_first c.self.inside.scopes.items; items = items i; spare_scopes = c.self.inside.spare_scopes; spare_puts = c.self.inside.spare_puts - 1 })
+
+pub returns-clause-live : goal.returns-clause-live
+returns-clause-live g c = rw c.fill.ensures.filled (live_put (map held_in c.self.inside.slots.items) c.fill.result _ (grind (arith, common_steps, c.fill.ensures.within)))

@@ -2,7 +2,7 @@ use Rattle.std.proofs.Common.{◌∙◌, IsSome, ap, arith, map, subst}
 use Rattle.std.proofs.lemmas.Grind.{common_steps}
 use Rattle.std.specs.Option.{option_map}
 use Rattle.scope_pool.specs.Layout.{held_in, newest_first, standing}
-use Rattle.scope_pool.proofs.StandingLaws.{get_standing, standing_exchanged}
+use Rattle.scope_pool.proofs.StandingLaws.{get_standing, live_exchanged, standing_exchanged}
 use Rattle.scope_pool.proofs.pool.Pool.set.Goals as goal
 
 pub exchange-requires : goal.exchange-requires
@@ -30,3 +30,8 @@ returns-clause-set g c =
     let live = subst IsSome (get_standing (map held_in c.self.inside.slots.items) c.args.place.number) (rw (← c.self.view_is) at c.requires) in
     let items = ap standing c.exchange.ensures.new ∙ standing_exchanged (map held_in c.self.inside.slots.items) c.args.place.number c.args.item live in
     rw (← c.self.view_is) (λ i. record { scopes = newest_first c.self.inside.scopes.items; items = items i; spare_scopes = c.self.inside.spare_scopes; spare_puts = c.self.inside.spare_puts })
+
+pub returns-clause-live : goal.returns-clause-live
+returns-clause-live g c =
+    let live = subst IsSome (get_standing (map held_in c.self.inside.slots.items) c.args.place.number) (rw (← c.self.view_is) at c.requires) in
+    rw c.exchange.ensures.new (live_exchanged (map held_in c.self.inside.slots.items) c.args.place.number c.args.item live)
