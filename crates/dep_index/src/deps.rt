@@ -3,7 +3,7 @@ ghost use Rattle.std.specs.Prelude.{◌≡◌, ◌-◌, ◌<◌, max, IfOk, OnEr
 ghost use Rattle.std.specs.List.Sorted.{IsStrictlyIncreasing};
 ghost use Rattle.dep_index.specs.Pairs.{AreUsers, linked, no_links, unlinked};
 
-use crate::pair::{Pair, find_users, is_among, remove_all};
+use crate::pair::{Pair, add, find_users, remove_all};
 use crate::used::Used;
 use std::alloc::Global;
 use std::marker::Model;
@@ -78,10 +78,8 @@ impl Deps {
         requires { 0 < self.old.spare }
         ensures { self.new ≡ record (linked self.old used to) { spare = self.old.spare - 1 } }
     {
+        add(&mut self.pairs, used, to);
         self.spare -= 1;
-        if !is_among(self.pairs.as_slice(), &used, to) {
-            self.pairs.push_reserved(Pair { source: used, to });
-        }
     }
 
     /// Removes all pairs of an instance. Takes no memory.
@@ -97,7 +95,7 @@ impl Deps {
         ensures users { IfOk result (λ us. AreUsers self.now.links used.now us) }
     {
         let mut found = find_users(self.alloc, self.pairs.as_slice(), used)?;
-        found.sort()?;
+        found.sort_unstable();
         found.dedup();
         Ok(ListOf::from_vec(found))
     }
