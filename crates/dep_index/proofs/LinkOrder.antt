@@ -1,5 +1,5 @@
 -- The order of pairs tells them apart.
-use Rattle.std.proofs.Common.{◌≡◌, ℕ, Bool, true, false, ◌&&◌, ◌==◌, List, refl, ap, sym, ◌∙◌, subst, arith, Less, Equal, Greater}
+use Rattle.std.proofs.Common.{◌≡◌, ℕ, Bool, true, false, ◌&&◌, ◌==◌, refl, ap, sym, ◌∙◌, subst, arith, Equal}
 use Rattle.std.proofs.lemmas.Bool.{and_parts}
 use Rattle.std.proofs.lemmas.Bool.Decides.{nat_tests}
 use Rattle.std.proofs.lemmas.Cmp.{eq_by_cmp_equiv}
@@ -9,7 +9,6 @@ use Rattle.std.specs.Ordering.{eq_by_cmp, is_eq, nat_cmp, ordering_then}
 use Rattle.std.specs.declared.cmp.Ordering.{Ordering}
 use Rattle.value_core.proofs.Sames.{same_refl, same_true}
 use Rattle.value_core.specs.Same.{same}
-use Rattle.value_core.specs.declared.state.Triple.{Triple}
 use Rattle.dep_index.specs.Pairs.{Link, bytes_cmp, key_of, kind_of, link_cmp, link_cmp_total, number_of, used_cmp, used_code, value_of}
 use Rattle.dep_index.specs.declared.used.Used.{Used}
 use Rattle.dep_index.specs.declared.used.Used.TheVariants as used
@@ -65,10 +64,10 @@ as_bool false false f g = refl
 pub parts_tell : (source : Used) (to : ℕ) (l : Link) → eq_by_cmp link_cmp (record { source = source; to = to }) l ≡ (same used_code l.source source && l.to == to)
 parts_tell source to l =
     as_bool (eq_by_cmp link_cmp (record { source = source; to = to }) l) (same used_code l.source source && l.to == to)
-      (λ e. let is = tied (record { source = source; to = to }) l e in
-        subst (λ (m : Link). (same used_code m.source source && m.to == to) ≡ true) is (rw (same_refl used_code source, same_number to) refl))
-      (λ e. let h = and_parts (same used_code l.source source) (l.to == to) e in
-        let one : l.source ≡ source = same_true used_code l.source source h.0 in
-        let other : l.to ≡ to = grind (arith, nat_tests, h.1) in
-        let is : l ≡ record { source = source; to = to } = λ i. record { source = one i; to = other i } in
-        subst (λ (m : Link). eq_by_cmp link_cmp (record { source = source; to = to }) m ≡ true) (sym is) (itself (record { source = source; to = to })))
+    (λ e. let is = tied (record { source = source; to = to }) l e in
+    subst (λ (m : Link). (same used_code m.source source && m.to == to) ≡ true) is (rw (same_refl used_code source, same_number to) refl))
+    (λ e. let h = and_parts (same used_code l.source source) (l.to == to) e in
+    let one : l.source ≡ source = same_true used_code l.source source h.0 in
+    let other : l.to ≡ to = grind (arith, nat_tests, h.1) in
+    let is : l ≡ record { source = source; to = to } = λ i. record { source = one i; to = other i } in
+    subst (λ (m : Link). eq_by_cmp link_cmp (record { source = source; to = to }) m ≡ true) (sym is) (itself (record { source = source; to = to })))

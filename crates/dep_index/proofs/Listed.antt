@@ -8,10 +8,9 @@ use Rattle.std.proofs.lemmas.Map.Lookups.{exact_unsigned}
 use Rattle.std.proofs.lemmas.Map.Views.{Contains-from_any, list_any-from_Contains, tells_apart}
 use Rattle.std.specs.Cmp.{nat_cmp_total}
 use Rattle.std.specs.FinSet.{contains, contains-from_list, contains-insert, contains-retain, from_list, from_list_push, insert, retain, same_set}
-use Rattle.std.specs.List.{Contains, dedup, list_any}
+use Rattle.std.specs.List.{dedup, list_any}
 use Rattle.std.specs.List.Sorted.{IsPermutation}
 use Rattle.std.specs.Ordering.{eq_by_cmp, nat_cmp}
-use Rattle.std.specs.Prelude.{◌↔◌}
 use Rattle.value_core.specs.Same.{same}
 use Rattle.dep_index.specs.Layout.{is_listed, listed_users, shown}
 use Rattle.dep_index.specs.Pairs.{AreUsers, Link, Links, link_cmp, link_cmp_total, used_code}
@@ -71,7 +70,7 @@ any_filter : {X : Type 0} (e p : X → Bool) (b : Bool) → ((x : X) → e x ≡
 any_filter e p b same [] = refl
 any_filter e p b same (x ∷ xs) =
     elim (p x) as (λ c. (e x ≡ true → c ≡ b) → list_any e (cond c (x ∷ filter p xs) (filter p xs)) ≡ ((e x || list_any e xs) && b)) [
-      true ↦ λ h. kept (e x) b (list_any e xs) (list_any e (filter p xs)) h (any_filter e p b same xs)
+      | true ↦ λ h. kept (e x) b (list_any e xs) (list_any e (filter p xs)) h (any_filter e p b same xs)
       | false ↦ λ h. dropped (e x) b (list_any e xs) (list_any e (filter p xs)) h (any_filter e p b same xs)
     ] (same x)
 
@@ -79,7 +78,7 @@ shown-filter : (to : ℕ) (ps : List Pair) → map shown (filter (λ p. not (p.t
 shown-filter to [] = refl
 shown-filter to (p ∷ ps) =
     elim (p.to == to) as (λ b. map shown (cond (not b) (p ∷ filter (λ p. not (p.to == to)) ps) (filter (λ p. not (p.to == to)) ps)) ≡ cond (not b) (shown p ∷ filter (λ l. not (l.to == to)) (map shown ps)) (filter (λ l. not (l.to == to)) (map shown ps)))
-      [ true ↦ shown-filter to ps | false ↦ ap (λ (r : List Link). shown p ∷ r) (shown-filter to ps) ]
+    [ true ↦ shown-filter to ps | false ↦ ap (λ (r : List Link). shown p ∷ r) (shown-filter to ps) ]
 
 -- the pairs of the other instances
 pub unlinked_is : (to : ℕ) (ps : List Pair) → from_list {R = link_cmp} (map shown (filter (λ p. not (p.to == to)) ps)) ≡ retain (from_list (map shown ps)) (λ l. not (l.to == to))
@@ -87,10 +86,10 @@ unlinked_is to ps =
     let other : Link → Bool = λ l. not (l.to == to) in
     ap (λ ls. from_list {R = link_cmp} ls) (shown-filter to ps)
     ∙ same_set link_cmp_total link_apart _ _ (λ q.
-      contains-from_list link_cmp_total (filter other (map shown ps)) q
-      ∙ any_filter (eq_by_cmp link_cmp q) other (other q) (λ l e. ap other (sym (tied q l e))) (map shown ps)
-      ∙ ap (λ b. b && other q) (sym (contains-from_list link_cmp_total (map shown ps) q))
-      ∙ sym (contains-retain (from_list (map shown ps)) other q (λ l e. ap other (sym (link_apart q l e)))))
+    contains-from_list link_cmp_total (filter other (map shown ps)) q
+    ∙ any_filter (eq_by_cmp link_cmp q) other (other q) (λ l e. ap other (sym (tied q l e))) (map shown ps)
+    ∙ ap (λ b. b && other q) (sym (contains-from_list link_cmp_total (map shown ps) q))
+    ∙ sym (contains-retain (from_list (map shown ps)) other q (λ l e. ap other (sym (link_apart q l e)))))
 
 -- ---- users
 
@@ -101,15 +100,16 @@ users_listed : (ls : List Link) (source : Used) (n : ℕ) → list_any (eq_by_cm
 users_listed [] source n = refl
 users_listed (l ∷ ls) source n =
     elim (same used_code l.source source) as (λ b. list_any (eq_by_cmp nat_cmp n) (map (λ l. l.to) (cond b (l ∷ filter (λ l. same used_code l.source source) ls) (filter (λ l. same used_code l.source source) ls))) ≡ ((b && l.to == n) || is_listed ls source n)) [
-      true ↦ (λ i. eq_is l.to n i || users_listed ls source n i)
+      | true ↦ (λ i. eq_is l.to n i || users_listed ls source n i)
       | false ↦ users_listed ls source n
     ]
 
 -- what is left of the users when they are sorted and each is taken once
 pub users_are : (ls : List Link) (source : Used) (sorted : List ℕ) → IsPermutation (listed_users ls source) sorted → AreUsers (from_list ls) source (dedup (λ x y. x == y) sorted)
 users_are ls source sorted moved = λ n.
-    let tell = listed_is ls source n ∙ sym (users_listed ls source n) in
-    (λ h. tell ∙ list_any-from_Contains (eq_by_cmp_equiv nat_cmp_total) n (listed_users ls source)
-        (Contains-permutation sorted (listed_users ls source) n (IsPermutation-sym (listed_users ls source) sorted moved) (Contains-from_dedup (λ x y. x == y) sorted n h)),
+    let tell = listed_is ls source n ∙ sym (users_listed ls source n) in (
+      λ h. tell ∙ list_any-from_Contains (eq_by_cmp_equiv nat_cmp_total) n (listed_users ls source)
+          (Contains-permutation sorted (listed_users ls source) n (IsPermutation-sym (listed_users ls source) sorted moved) (Contains-from_dedup (λ x y. x == y) sorted n h)),
       λ h. Contains-dedup_nat sorted n (Contains-permutation (listed_users ls source) sorted n moved
-        (Contains-from_any (tells_apart exact_unsigned) n (listed_users ls source) (sym tell ∙ h))))
+          (Contains-from_any (tells_apart exact_unsigned) n (listed_users ls source) (sym tell ∙ h))),
+    )

@@ -1,5 +1,5 @@
 -- What a contract sees of an index of users: a set of pairs.
-use Rattle.std.specs.Prelude.{◌≡◌, ℕ, ◌-◌, Bool, true, not, ◌==◌, List, [], ◌↔◌, refl}
+use Rattle.std.specs.Prelude.{◌≡◌, ℕ, true, not, ◌==◌, List, [], ◌↔◌, refl}
 use Rattle.std.specs.Cmp.{IsTotalOrder, on_total, then_total, nat_cmp_total}
 use Rattle.std.specs.Cmp.Lexicographic.{slice_cmp, nat_list_cmp_total}
 use Rattle.std.specs.Coded.{Coded, code_by, coded×, coded_ℕ}
@@ -8,7 +8,6 @@ use Rattle.std.specs.FinSet as set_of
 use Rattle.std.specs.List.{Contains}
 use Rattle.std.specs.Ordering.{nat_cmp, on, then_cmp}
 use Rattle.std.specs.declared.cmp.Ordering.{Ordering}
-use Rattle.value_core.specs.declared.state.Triple.{Triple}
 use Rattle.dep_index.specs.declared.used.Used.{Used}
 use Rattle.dep_index.specs.declared.used.Used.TheVariants as used
 use Rattle.dep_index.specs.contracts.used.Used as used_type

@@ -48,11 +48,7 @@ pub(crate) fn remove_all(pairs: &mut Vec<Pair>, to: u32)
 }
 
 /// The instances of a source, in the order of the pairs.
-pub(crate) fn find_users(
-    alloc: Global,
-    pairs: &[Pair],
-    source: &Used,
-) -> Result<Vec<u32>, NoMemory>
+pub(crate) fn find_users(alloc: Global, pairs: &[Pair], source: &Used) -> Result<Vec<u32>, NoMemory>
     ensures { IfOk result (λ us. us.items ≡ listed_users (map shown pairs.now) source.now) }
 {
     let mut found = Vec::new(alloc);

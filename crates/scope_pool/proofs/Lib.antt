@@ -2,3 +2,4 @@ pub mod SlotLaws
 pub mod StandingLaws
 pub mod ScopeLaws
 pub mod Closing
+pub mod Nesting

@@ -26,7 +26,7 @@ not_open : (outer n : ℕ) (ss : List OpenScope) → is_open ss n ≡ false → 
 not_open outer n [] h = refl
 not_open outer n (s ∷ ss) h =
     elim (s.name == n) as (λ b. (b || is_open ss n) ≡ false → cond b (n == outer || is_within outer s.parent ss) (is_within outer (Some n) ss) ≡ false)
-      [ true ↦ λ e. cc | false ↦ λ e. not_open outer n ss e ] h
+    [ true ↦ λ e. cc | false ↦ λ e. not_open outer n ss e ] h
 
 at_name : (c f : Bool) → f ≡ false → cond c (f || (true || false)) f ≡ c
 at_name true f e = rw e refl
@@ -48,12 +48,12 @@ found_within outer (s ∷ older) sound n =
     let same : (s.name == n) ≡ true → n ≡ s.name = λ e. grind (arith, nat_tests, e) in
     let tested : (s.name == outer || among_maybe found s.parent) ≡ (s.name == outer || is_within outer s.parent older) = ap (λ b. s.name == outer || b) (found_maybe outer older found (found_within outer older sound.1.1) s.parent) in
     let grown : (c : Bool) → among (cond c (found ++ s.name ∷ []) found) n ≡ cond c (among found n || (s.name == n || false)) (among found n) =
-      λ c. elim c as (λ c. among (cond c (found ++ s.name ∷ []) found) n ≡ cond c (among found n || (s.name == n || false)) (among found n)) [ true ↦ list_any-append (λ m. m == n) found (s.name ∷ []) | false ↦ refl ] in
+    λ c. elim c as (λ c. among (cond c (found ++ s.name ∷ []) found) n ≡ cond c (among found n || (s.name == n || false)) (among found n)) [ true ↦ list_any-append (λ m. m == n) found (s.name ∷ []) | false ↦ refl ] in
     let cases : (b : Bool) → (s.name == n) ≡ b → cond (s.name == outer || is_within outer s.parent older) (among found n || (b || false)) (among found n) ≡ cond b (n == outer || is_within outer s.parent older) (is_within outer (Some n) older) =
-      λ b. elim b as (λ b. (s.name == n) ≡ b → cond (s.name == outer || is_within outer s.parent older) (among found n || (b || false)) (among found n) ≡ cond b (n == outer || is_within outer s.parent older) (is_within outer (Some n) older)) [
-        true ↦ λ e. rw (same e) (at_name (s.name == outer || is_within outer s.parent older) (among found s.name) (found_within outer older sound.1.1 s.name ∙ not_open outer s.name older sound.0))
-        | false ↦ λ e. other_name (s.name == outer || is_within outer s.parent older) (among found n) ∙ found_within outer older sound.1.1 n
-      ] in
+    λ b. elim b as (λ b. (s.name == n) ≡ b → cond (s.name == outer || is_within outer s.parent older) (among found n || (b || false)) (among found n) ≡ cond b (n == outer || is_within outer s.parent older) (is_within outer (Some n) older)) [
+      | true ↦ λ e. rw (same e) (at_name (s.name == outer || is_within outer s.parent older) (among found s.name) (found_within outer older sound.1.1 s.name ∙ not_open outer s.name older sound.0))
+      | false ↦ λ e. other_name (s.name == outer || is_within outer s.parent older) (among found n) ∙ found_within outer older sound.1.1 n
+    ] in
     grown (s.name == outer || among_maybe found s.parent) ∙ ap (λ c. cond c (among found n || (s.name == n || false)) (among found n)) tested ∙ cases (s.name == n) refl
 
 -- a pass over the scopes finds just those within the outer one
@@ -69,7 +69,7 @@ newest_left gone [] = refl
 newest_left gone (s ∷ ss) =
     let whole : filter (λ (t : OpenScope). not (gone t.name)) (newest_first ss ++ shown s ∷ []) ≡ filter (λ t. not (gone t.name)) (newest_first ss) ++ cond (not (gone s.name)) (shown s ∷ []) [] = filter-append (λ t. not (gone t.name)) (newest_first ss) (shown s ∷ []) in
     elim (gone s.name) as (λ b. newest_first (cond (not b) (s ∷ filter (λ s. not (gone s.name)) ss) (filter (λ s. not (gone s.name)) ss)) ≡ filter (λ t. not (gone t.name)) (newest_first ss) ++ cond (not b) (shown s ∷ []) [])
-      [ true ↦ newest_left gone ss ∙ sym (append-nil (filter (λ t. not (gone t.name)) (newest_first ss))) | false ↦ ap (λ ts. ts ++ shown s ∷ []) (newest_left gone ss) ] ∙ sym whole
+    [ true ↦ newest_left gone ss ∙ sym (append-nil (filter (λ t. not (gone t.name)) (newest_first ss))) | false ↦ ap (λ ts. ts ++ shown s ∷ []) (newest_left gone ss) ] ∙ sym whole
 
 -- where a scope stays its parent does
 abbrev Stay : (ℕ → Bool) → List OpenScope → Type 0
@@ -93,31 +93,31 @@ sound_left gone [] sound stay = tt
 sound_left gone (s ∷ older) sound stay =
     let rest = sound_left gone older sound.1.1 stay.1 in
     let cases : (b : Bool) → gone s.name ≡ b → AreSound (cond (not b) (s ∷ filter (λ s. not (gone s.name)) older) (filter (λ s. not (gone s.name)) older)) =
-      λ b. elim b as (λ b. gone s.name ≡ b → AreSound (cond (not b) (s ∷ filter (λ s. not (gone s.name)) older) (filter (λ s. not (gone s.name)) older)))
-        [ true ↦ λ e. rest | false ↦ λ e. (closed_left gone older s.name sound.0, (parent_left gone older s.parent sound.1.0 (stay.0 e), rest)) ]
+    λ b. elim b as (λ b. gone s.name ≡ b → AreSound (cond (not b) (s ∷ filter (λ s. not (gone s.name)) older) (filter (λ s. not (gone s.name)) older)))
+    [ true ↦ λ e. rest | false ↦ λ e. (closed_left gone older s.name sound.0, (parent_left gone older s.parent sound.1.0 (stay.0 e), rest)) ]
     in cases (gone s.name) refl
 
 apart : (name n : ℕ) (older : List OpenScope) → is_open older name ≡ false → is_open older n ≡ true → (name == n) ≡ false
 apart name n older new h =
     let cases : (b : Bool) → (name == n) ≡ b → b ≡ false =
-      λ b. elim b as (λ b. (name == n) ≡ b → b ≡ false)
-        [ true ↦ λ e. let same : name ≡ n = grind (arith, nat_tests, e) in absurd (false-ne-true (sym new ∙ ap (is_open older) same ∙ h)) | false ↦ λ e. refl ]
+    λ b. elim b as (λ b. (name == n) ≡ b → b ≡ false)
+    [ true ↦ λ e. let same : name ≡ n = grind (arith, nat_tests, e) in absurd (false-ne-true (sym new ∙ ap (is_open older) same ∙ h)) | false ↦ λ e. refl ]
     in cases (name == n) refl
 
-skips : (outer : ℕ) (s : OpenScope) (older : List OpenScope) (n : ℕ) → is_open older s.name ≡ false → is_open older n ≡ true → is_within outer (Some n) (s ∷ older) ≡ is_within outer (Some n) older
+pub skips : (outer : ℕ) (s : OpenScope) (older : List OpenScope) (n : ℕ) → is_open older s.name ≡ false → is_open older n ≡ true → is_within outer (Some n) (s ∷ older) ≡ is_within outer (Some n) older
 skips outer s older n new h = ap (λ b. cond b (n == outer || is_within outer s.parent older) (is_within outer (Some n) older)) (apart s.name n older new h)
 
-same_name : (n : ℕ) → (n == n) ≡ true
+pub same_name : (n : ℕ) → (n == n) ≡ true
 same_name n = grind (arith, nat_tests)
 
 open_maybe : (older : List OpenScope) (o : Option ℕ) (p : ℕ) → o ≡ Some p → IsOpenOrTop older o → is_open older p ≡ true
 open_maybe older o p e h = subst (IsOpenOrTop older) e h
 
-or_later : (a b : Bool) → b ≡ true → (a || b) ≡ true
+pub or_later : (a b : Bool) → b ≡ true → (a || b) ≡ true
 or_later true b h = refl
 or_later false b h = h
 
-or_first : (a b : Bool) → a ≡ true → (a || b) ≡ true
+pub or_first : (a b : Bool) → a ≡ true → (a || b) ≡ true
 or_first true b h = refl
 or_first false b h = cc
 
@@ -131,10 +131,11 @@ stay_within outer gone (s ∷ older) sound same =
     let later : (n : ℕ) → is_open older n ≡ true → is_open (s ∷ older) n ≡ true = λ n h. or_later (s.name == n) (is_open older n) h in
     let kept : (n : ℕ) → is_open older n ≡ true → gone n ≡ is_within outer (Some n) older = λ n h. same n (later n h) ∙ skips outer s older n sound.0 h in
     let here : gone s.name ≡ (s.name == outer || is_within outer s.parent older) =
-      same s.name (or_first (s.name == s.name) (is_open older s.name) (same_name s.name))
-      ∙ ap (λ b. cond b (s.name == outer || is_within outer s.parent older) (is_within outer (Some s.name) older)) (same_name s.name) in
-    (λ stays p e. kept p (open_maybe older s.parent p e sound.1.0) ∙ ap (λ o. is_within outer o older) (sym e) ∙ or_false (s.name == outer) (is_within outer s.parent older) (sym here ∙ stays),
-      stay_within outer gone older sound.1.1 kept)
+    same s.name (or_first (s.name == s.name) (is_open older s.name) (same_name s.name))
+    ∙ ap (λ b. cond b (s.name == outer || is_within outer s.parent older) (is_within outer (Some s.name) older)) (same_name s.name) in (
+      λ stays p e. kept p (open_maybe older s.parent p e sound.1.0) ∙ ap (λ o. is_within outer o older) (sym e) ∙ or_false (s.name == outer) (is_within outer s.parent older) (sym here ∙ stays),
+      stay_within outer gone older sound.1.1 kept,
+    )
 
 -- what is left of sound scopes is sound
 pub sound_closed : (outer : ℕ) (ss : List OpenScope) → AreSound ss → AreSound (scopes_outside outer ss)

@@ -32,8 +32,8 @@ module _ {T : Type 0} where
         within = λ k h. grind (arith, common_steps, l.within k);
         stacked = λ k h d. grind (arith, common_steps, l.within k, l.stacked k, free d);
         counted =
-          let e = rw (free (Vacant 0)) at (sum_by-set {X = Slot T} (held_one {T = T}) slots n (Held scope item) (Vacant 0) inside) in
-          omega (arith, e, l.counted, length-append vacant (n ∷ []), length-set slots n (Held scope item));
+            let e = rw (free (Vacant 0)) at (sum_by-set {X = Slot T} (held_one {T = T}) slots n (Held scope item) (Vacant 0) inside) in
+            omega (arith, e, l.counted, length-append vacant (n ∷ []), length-set slots n (Held scope item));
       }
 
   pub held_with : (s : Slot T) (x : T) → is_held (slot_with x s) ≡ is_held s
@@ -46,8 +46,8 @@ module _ {T : Type 0} where
     within = λ k h. grind (arith, common_steps, l.within k);
     stacked = λ k h d. grind (arith, common_steps, l.within k, l.stacked k, is d);
     counted =
-      let e = rw (is (Vacant 0), held_with old x, held) at (sum_by-set {X = Slot T} (held_one {T = T}) slots n (slot_with x old) (Vacant 0) inside) in
-      omega (arith, e, l.counted, length-set slots n (slot_with x old));
+        let e = rw (is (Vacant 0), held_with old x, held) at (sum_by-set {X = Slot T} (held_one {T = T}) slots n (slot_with x old) (Vacant 0) inside) in
+        omega (arith, e, l.counted, length-set slots n (slot_with x old));
   }
 
   pub laid_out-vacated : (slots : List (Slot T)) (vacant : List ℕ) (m n : ℕ) → m ≡ length vacant → IsLaidOut slots vacant →
@@ -56,8 +56,8 @@ module _ {T : Type 0} where
     within = λ k h. grind (arith, common_steps, l.within k);
     stacked = λ k h d. grind (arith, common_steps, l.within k, l.stacked k, held d);
     counted =
-      let e = rw (held (Vacant 0)) at (sum_by-set {X = Slot T} (held_one {T = T}) slots n (Vacant m) (Vacant 0) inside) in
-      omega (arith, e, l.counted, length-append vacant (n ∷ []), length-set slots n (Vacant m));
+        let e = rw (held (Vacant 0)) at (sum_by-set {X = Slot T} (held_one {T = T}) slots n (Vacant m) (Vacant 0) inside) in
+        omega (arith, e, l.counted, length-append vacant (n ∷ []), length-set slots n (Vacant m));
   }
 
   -- a vacant slot at the end changes nothing that is seen

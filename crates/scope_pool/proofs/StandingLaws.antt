@@ -107,10 +107,10 @@ module _ {A : Type 0} where
       let gone : ℕ → Bool = λ n. is_within outer (Some n) scopes in
       let keeps : ℕ → Bool = λ place. not (is_within outer (option_map (λ x. x.scope) (get (standing xs) place)) scopes) in
       same_map nat_cmp_total nat_cmp-IsAntisymmetric _ _ (λ q.
-        get_standing (map (left_by gone) xs) q ∙ left_at gone xs q ∙ ap (left_by gone) (sym (get_standing xs q))
-        ∙ left_if gone (get (standing xs) q)
-        ∙ ap (λ b. cond (not b) (get (standing xs) q) None) (goes_within outer scopes (get (standing xs) q))
-        ∙ sym (get-retain_keys (standing xs) keeps q (λ x e. ap keeps (sym (nat_cmp-IsAntisymmetric q x e)))))
+      get_standing (map (left_by gone) xs) q ∙ left_at gone xs q ∙ ap (left_by gone) (sym (get_standing xs q))
+      ∙ left_if gone (get (standing xs) q)
+      ∙ ap (λ b. cond (not b) (get (standing xs) q) None) (goes_within outer scopes (get (standing xs) q))
+      ∙ sym (get-retain_keys (standing xs) keeps q (λ x e. ap keeps (sym (nat_cmp-IsAntisymmetric q x e)))))
 
   inside : (xs : List (Option (ScopedItem A))) (n : ℕ) (x : ScopedItem A) → slice_index_or xs n None ≡ Some x → n < length xs
   inside [] n x e = cc

@@ -99,8 +99,8 @@ module _ {A : Type 0} where
 
 module _ {A : Type 0} where
   -- nothing is open, nothing stands there, and there is no room yet
-  abbrev pub vacant : Region A
-  vacant = record { scopes = []; items = empty; spare_scopes = 0; spare_puts = 0 }
+  abbrev pub nothing_open : Region A
+  nothing_open = record { scopes = []; items = empty; spare_scopes = 0; spare_puts = 0 }
 
   -- a scope is opened, for which a spare is used
   abbrev pub opened : Region A → ℕ → Option ℕ → Region A

@@ -12,6 +12,3 @@ mod slots;
 mod tests;
 
 pub use pool::{Place, Pool, ScopeId, scopes_law};
-
-/// Memory is wanting.
-pub type NoMemory = std::alloc::AllocError;

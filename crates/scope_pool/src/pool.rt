@@ -2,9 +2,9 @@
 ghost use Rattle.std.specs.Prelude.{◌≡◌, ◌<◌, false, max, OnErr, OnOk, None, Some};
 ghost use Rattle.std.specs.FinMap.{get, len};
 ghost use Rattle.std.specs.Option.{option_map};
-ghost use Rattle.scope_pool.specs.Region.{AreSound, IsLive, IsOpen, IsOpenOrTop, closed, is_open, item_at, opened, put_at, set_at, vacant};
+ghost use Rattle.scope_pool.specs.Laws.{AreNestedByParents};
+ghost use Rattle.scope_pool.specs.Region.{AreSound, IsLive, IsOpen, IsOpenOrTop, closed, is_open, item_at, nothing_open, opened, put_at, set_at};
 
-use crate::NoMemory;
 use crate::scopes::{Scope, drop_scopes, find_within, reserve_scopes};
 use crate::slots::{Slot, exchange, fill, item_in, reserve_slots, vacate};
 use std::alloc::{AllocError, Global};
@@ -79,7 +79,7 @@ fn name_of(scope: Option<ScopeId>) -> Option<u64>
 impl<T: Drop> Pool<T> {
     /// No scope, no item and no room.
     pub fn new(alloc: Global) -> Pool<T>
-        ensures { result ≡ vacant }
+        ensures { result ≡ nothing_open }
     {
         Pool {
             scopes: Vec::new(alloc),
@@ -93,7 +93,7 @@ impl<T: Drop> Pool<T> {
     }
 
     /// Makes room for at least so many more scopes and items.
-    pub fn reserve(&mut self, scopes: usize, puts: usize) -> Result<(), NoMemory>
+    pub fn reserve(&mut self, scopes: usize, puts: usize) -> Result<(), AllocError>
         ensures ok { OnOk result (self.new ≡ record self.old { spare_scopes = max self.old.spare_scopes scopes; spare_puts = max self.old.spare_puts puts }) }
         ensures err { OnErr result (self.new ≡ self.old) }
     {
@@ -178,9 +178,10 @@ impl<T: Drop> Pool<T> {
     }
 }
 
-/// The names of open scopes differ, and a parent is open and older than its scope. Does nothing.
+/// What holds of the open scopes of every pool. Does nothing.
 pub fn scopes_law<T>(pool: &Pool<T>)
-    ensures { AreSound pool.now.scopes }
+    ensures sound { AreSound pool.now.scopes }
+    ensures nested { AreNestedByParents pool.now.scopes }
 {
     let _scopes = &pool.scopes;
 }

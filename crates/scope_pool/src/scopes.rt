@@ -2,7 +2,6 @@
 ghost use Rattle.std.specs.Prelude.{◌≡◌, ◌+◌, ◌≤◌, [], filter, not, length, map, OnOk, vec_capacity, vec_len};
 ghost use Rattle.scope_pool.specs.Layout.{among, among_maybe, found_from};
 
-use crate::NoMemory;
 use std::alloc::AllocError;
 
 #[derive(Drop)]
@@ -16,7 +15,7 @@ pub(crate) fn reserve_scopes(
     scopes: &mut Vec<Scope>,
     closing: &mut Vec<u64>,
     more: usize,
-) -> Result<(), NoMemory>
+) -> Result<(), AllocError>
     ensures scopes { scopes.new.items ≡ scopes.old.items }
     ensures closing { closing.new.items ≡ closing.old.items }
     ensures scopes_room { vec_capacity scopes.old ≤ vec_capacity scopes.new }

@@ -3,7 +3,6 @@ ghost use Rattle.std.specs.Prelude.{◌≡◌, ℕ, ◌+◌, ◌<◌, ◌≤◌,
 ghost use Rattle.std.specs.Option.{option_map};
 ghost use Rattle.scope_pool.specs.Layout.{among, held_in, is_held, left_by, slot_item, slot_with, with_item, IsLaidOut};
 
-use crate::NoMemory;
 use std::alloc::AllocError;
 use std::mem;
 
@@ -24,7 +23,10 @@ impl<T> Slot<T> {
         ensures new { self.new ≡ slot_with item self.old }
     {
         match self {
-            Slot::Held { scope: _, item: held } => mem::replace(held, item),
+            Slot::Held {
+                scope: _,
+                item: held,
+            } => mem::replace(held, item),
             Slot::Vacant(_) => unreachable!(),
         }
     }
@@ -35,7 +37,7 @@ pub(crate) fn reserve_slots<T>(
     slots: &mut Vec<Slot<T>>,
     vacant: &mut Vec<u32>,
     more: usize,
-) -> Result<(), NoMemory>
+) -> Result<(), AllocError>
     requires laid_out { IsLaidOut slots.old.items vacant.old.items }
     requires few { vec_len slots.old ≤ 2 ^ 32 }
     requires room_to_vacate { vec_len slots.old ≤ vec_capacity vacant.old }
@@ -157,12 +159,7 @@ pub(crate) fn vacate<T: Drop>(slots: &mut Vec<Slot<T>>, vacant: &mut Vec<u32>, c
 }
 
 /// Vacates a slot if it is of one of these scopes.
-fn vacate_one<T: Drop>(
-    slots: &mut Vec<Slot<T>>,
-    vacant: &mut Vec<u32>,
-    i: usize,
-    closing: &[u64],
-)
+fn vacate_one<T: Drop>(slots: &mut Vec<Slot<T>>, vacant: &mut Vec<u32>, i: usize, closing: &[u64])
     requires laid_out { IsLaidOut slots.old.items vacant.old.items }
     requires few { vec_len slots.old ≤ 2 ^ 32 }
     requires room { vec_len slots.old ≤ vec_capacity vacant.old }

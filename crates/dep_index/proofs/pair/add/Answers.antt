@@ -1,4 +1,4 @@
-use Rattle.std.proofs.Common.{◌≡◌, sym, map}
+use Rattle.std.proofs.Common.{sym, map}
 use Rattle.dep_index.specs.Layout.{shown}
 use Rattle.dep_index.proofs.Listed.{linked_again, linked_more}
 use Rattle.dep_index.proofs.pair.add.Goals as goal

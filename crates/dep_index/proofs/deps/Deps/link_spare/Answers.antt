@@ -1,4 +1,4 @@
-use Rattle.std.proofs.Common.{◌≡◌, ◌-◌}
+use Rattle.std.proofs.Common.{◌-◌}
 use Rattle.dep_index.proofs.deps.Deps.link_spare.Goals as goal
 
 pub returns : goal.returns

@@ -1,4 +1,4 @@
-use Rattle.std.proofs.Common.{◌≡◌, ◌∙◌, ap, map}
+use Rattle.std.proofs.Common.{◌∙◌, ap, map}
 use Rattle.std.specs.FinSet.{from_list}
 use Rattle.dep_index.specs.Layout.{shown}
 use Rattle.dep_index.specs.Pairs.{link_cmp}

@@ -28,5 +28,5 @@ returns-clause-fresh g c = rw (← c.self.view_is) (not_used c.self.inside.scope
 pub returns-clause-opened : goal.returns-clause-opened
 returns-clause-opened g c =
     let newest = ap newest_first c.push_reserved.ensures.items ∙ newest_more c.self.inside.scopes.items _
-      ∙ ap (λ p. let s : OpenScope = record { name = c.self.inside.next_scope; parent = p } in s ∷ newest_first c.self.inside.scopes.items) c.name_of.ensures in
+    ∙ ap (λ p. let s : OpenScope = record { name = c.self.inside.next_scope; parent = p } in s ∷ newest_first c.self.inside.scopes.items) c.name_of.ensures in
     rw (← c.self.view_is) (λ i. record { scopes = newest i; items = standing (map held_in c.self.inside.slots.items); spare_scopes = c.self.inside.spare_scopes - 1; spare_puts = c.self.inside.spare_puts })

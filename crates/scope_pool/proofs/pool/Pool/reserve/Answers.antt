@@ -9,7 +9,7 @@ returns-in_err-reserve_slots-clause-err g c =
     let scopes = ap newest_first c.reserve_scopes.ensures.scopes in
     let items = standing_same (map held_in c.reserve_slots.new.slots.items) (map held_in c.self.inside.slots.items) c.in_err-reserve_slots.ensures.places in
     any_err c.from_residual-in_err-reserve_slots.result
-      (rw (← c.self.view_is) (λ i. record { scopes = scopes i; items = items i; spare_scopes = c.self.inside.spare_scopes; spare_puts = c.self.inside.spare_puts }))
+    (rw (← c.self.view_is) (λ i. record { scopes = scopes i; items = items i; spare_scopes = c.self.inside.spare_scopes; spare_puts = c.self.inside.spare_puts }))
 
 pub returns-clause-ok : goal.returns-clause-ok
 returns-clause-ok g c =
