@@ -1,0 +1,5 @@
+pub mod SlotLaws
+pub mod StandingLaws
+pub mod ScopeLaws
+pub mod Closing
+pub mod Nesting

@@ -1,0 +1,80 @@
+-- How a pool lays out its scopes and slots. No public clause cites this module.
+use Rattle.std.specs.Prelude.{◌≡◌, ℕ, suc, ◌+◌, ◌<◌, Bool, true, false, ◌==◌, ◌||◌, List, [], ◌∷◌, ◌++◌, length, Option, Some, None, count_by, slice_index, slice_index_or, if◌then◌else◌}
+use Rattle.std.specs.FinMap.{FinMap, empty, insert}
+use Rattle.std.specs.List.{list_any}
+use Rattle.std.specs.Ordering.{nat_cmp}
+use Rattle.scope_pool.specs.Region.{OpenScope, ScopedItem}
+use Rattle.scope_pool.specs.declared.scopes.Scope.{Scope}
+use Rattle.scope_pool.specs.declared.slots.Slot.{Slot}
+use Rattle.scope_pool.specs.declared.slots.Slot.TheVariants.{Vacant, Held}
+
+-- a scope as contracts see it
+abbrev pub shown : Scope → OpenScope
+shown s = record { name = s.name; parent = s.parent }
+
+-- the scopes with the newest first
+abbrev pub newest_first : List Scope → List OpenScope
+newest_first [] = []
+newest_first (s ∷ ss) = newest_first ss ++ shown s ∷ []
+
+-- whether a number is in the list
+abbrev pub among : List ℕ → ℕ → Bool
+among ms n = list_any (λ m. m == n) ms
+
+-- whether a number is in the list, if there is one
+abbrev pub among_maybe : List ℕ → Option ℕ → Bool
+among_maybe ms None = false
+among_maybe ms (Some n) = among ms n
+
+-- the names that a pass over the scopes in the order of their opening finds within an outer one
+abbrev pub found_from : ℕ → List ℕ → List Scope → List ℕ
+found_from outer found [] = found
+found_from outer found (s ∷ ss) = found_from outer (if s.name == outer || among_maybe found s.parent then found ++ s.name ∷ [] else found) ss
+
+module _ {T : Type 0} where
+  -- what a slot holds
+  abbrev pub held_in : Slot T → Option (ScopedItem T)
+  held_in (Vacant _) = None
+  held_in (Held scope item) = Some (record { scope = scope; item = item })
+
+  -- whether a slot holds an item
+  abbrev pub is_held : Slot T → Bool
+  is_held (Vacant _) = false
+  is_held (Held _ _) = true
+
+  -- the item of a slot
+  abbrev pub slot_item : Slot T → Option T
+  slot_item (Vacant _) = None
+  slot_item (Held _ item) = Some item
+
+  -- a slot that holds another item in the same scope
+  abbrev pub slot_with : T → Slot T → Slot T
+  slot_with x (Vacant k) = Vacant k
+  slot_with x (Held scope _) = Held scope x
+
+  -- each vacant slot of the stack has its place in the stack, and all others are held
+  pub record IsLaidOut (slots : List (Slot T)) (vacant : List ℕ) : Type 0 where
+    pub within : (k : ℕ) → k < length vacant → slice_index vacant k < length slots
+    pub stacked : (k : ℕ) → k < length vacant → (d : Slot T) → slice_index_or slots (slice_index vacant k) d ≡ Vacant k
+    pub counted : count_by is_held slots + length vacant ≡ length slots
+
+module _ {A : Type 0} where
+  -- what stands at the places from a number on, as a map
+  abbrev pub standing_from : ℕ → List (Option A) → FinMap nat_cmp A
+  standing_from n [] = empty
+  standing_from n (None ∷ xs) = standing_from (suc n) xs
+  standing_from n (Some x ∷ xs) = insert (standing_from (suc n) xs) n x
+
+  -- what stands at the places, as a map
+  abbrev pub standing : List (Option A) → FinMap nat_cmp A
+  standing xs = standing_from 0 xs
+
+module _ {A : Type 0} where
+  -- an item with another one in its place, in the same scope
+  abbrev pub with_item : A → ScopedItem A → ScopedItem A
+  with_item item x = record x { item = item }
+
+  -- what is left of an item when some scopes are given up
+  abbrev pub left_by : (ℕ → Bool) → Option (ScopedItem A) → Option (ScopedItem A)
+  left_by gone None = None
+  left_by gone (Some x) = if gone x.scope then None else Some x
