@@ -38,6 +38,11 @@ impl From<io::Error> for Trouble {
 }
 
 impl From<AllocError> for Trouble {
+    ghost use Rattle.std.specs.Prelude.{◌≡◌};
+    ghost use Rattle.launch_core.specs.declared.children.Trouble.TheVariants as trouble;
+
+    ghost from_gives = { λ _ e. e ≡ trouble.Memory };
+
     fn from(_error: AllocError) -> Trouble {
         Trouble::Memory
     }
