@@ -5,7 +5,7 @@ use Rattle.std.specs.FinMap.{get, insert}
 use Rattle.value_core.specs.declared.value.Value.{Value}
 use Rattle.value_core.specs.declared.state.Stage.{Stage}
 use Rattle.value_core.specs.declared.state.Stage.TheVariants.{Ready, Waiting, Running}
-use Rattle.core_rules.specs.Changes.{Change, Idles, Makes, Refuses, Tried, cancel, cancelled_row, confirm, confirm_at, input_place, pause, rebuild, rebuild_free, rebuild_row, set_input, set_rate, takes}
+use Rattle.core_rules.specs.Changes.{Change, Idles, Makes, Refuses, Tried, cancel, cancelled_row, confirm, confirm_at, input_index, pause, rebuild, rebuild_free, rebuild_row, set_input, set_rate, takes}
 use Rattle.core_rules.specs.Core.{CoreState, job_numbered, stage, with_job, without_job}
 use Rattle.core_rules.specs.Exits.{exit_outcome}
 use Rattle.core_rules.specs.Orders.{finish, finish_by, leave, picked, result_row, take_by, take_job, take_pick, taken}
@@ -150,7 +150,7 @@ finish_moves s n None x is = idles s _
 finish_moves s n (Some j) x is = if_moves s (is_some j.worker) _ _ (λ w. finish_by_moves j.mark s n j x is w) (λ _. idles s _)
 
 pub change_moves : (s : CoreState) (w : What) → Moves s (change s w)
-change_moves s (what.SetInput name v) = set_input_moves s name v (input_place s name) _
+change_moves s (what.SetInput name v) = set_input_moves s name v (input_index s name) _
 change_moves s what.Tick = makes s _ (Aside (record { program = refl; now = refl; next = refl; version = refl }) refl refl refl)
 change_moves s (what.SetLevel threshold) = makes s _ (Aside (record { program = refl; now = refl; next = refl; version = refl }) refl refl refl)
 change_moves s (what.Confirm n) = confirm_moves s (job_numbered s.jobs n)

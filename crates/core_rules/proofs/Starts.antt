@@ -9,7 +9,7 @@ use Rattle.value_core.specs.declared.state.Stage.{Stage}
 use Rattle.value_core.specs.declared.state.Stage.TheVariants.{Ready, Waiting, Running}
 use Rattle.core_rules.proofs.Helpers.{chosen, filter_passes}
 use Rattle.core_rules.proofs.Moves.{accepts}
-use Rattle.core_rules.specs.Changes.{Change, Idles, Makes, Refuses, Tried, cancel, confirm, confirm_at, input_place, pause, rebuild, rebuild_free, rebuild_row, set_input, set_rate, takes}
+use Rattle.core_rules.specs.Changes.{Change, Idles, Makes, Refuses, Tried, cancel, confirm, confirm_at, input_index, pause, rebuild, rebuild_free, rebuild_row, set_input, set_rate, takes}
 use Rattle.core_rules.specs.Core.{CoreState, job_numbered, layout_of, may_start, op_of, stage, when_allowed}
 use Rattle.core_rules.specs.Laws.{IsStart}
 use Rattle.core_rules.specs.Orders.{finish, finish_by, is_ready, is_ready_job, load, order_for, picked, ready, take_job, take_pick}
@@ -165,7 +165,7 @@ take_pick_starts s w None p = idles s _
 take_pick_starts s w (Some n) p = take_job_starts s w n (job_numbered s.jobs n) p refl
 
 change_starts : (s : CoreState) (w : What) → Starts s (change s w)
-change_starts s (what.SetInput name v) = set_input_starts s name v (input_place s name) _
+change_starts s (what.SetInput name v) = set_input_starts s name v (input_index s name) _
 change_starts s what.Tick = silent s _ no_plain
 change_starts s (what.SetLevel threshold) = silent s _ no_plain
 change_starts s (what.Confirm n) = confirm_starts s (job_numbered s.jobs n)

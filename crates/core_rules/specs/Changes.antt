@@ -6,7 +6,7 @@ use Rattle.value_core.specs.declared.state.Stage.{Stage}
 use Rattle.value_core.specs.declared.state.Stage.TheVariants.{Ready, Waiting, Running}
 use Rattle.value_core.specs.Printed.{printed}
 use Rattle.value_core.specs.Values.{fits_kind}
-use Rattle.op_keys.specs.Names.{place_named}
+use Rattle.op_keys.specs.Names.{index_named}
 use Rattle.term_core.specs.declared.program.InputDecl.{InputDecl}
 use Rattle.term_core.specs.Soundness.{literal_kind}
 use Rattle.sched_rows.specs.declared.row.Row.{Row}
@@ -57,8 +57,8 @@ set_input s name v place (Some d) =
     else Refuses refusal.WrongKind
 
 -- the place of an input
-abbrev pub input_place : CoreState → List ℕ → ℕ
-input_place s name = place_named 0 (map (λ d. d.name) s.program.inputs) name
+abbrev pub input_index : CoreState → List ℕ → ℕ
+input_index s name = index_named 0 (map (λ d. d.name) s.program.inputs) name
 
 -- ---- jobs that are confirmed or cancelled
 
@@ -133,7 +133,7 @@ rebuild s name key (Some op) = rebuild_free s (row_key name key) (live_on s.jobs
 
 -- the number of the operation of this name, where there is one
 abbrev pub op_named : CoreState → List ℕ → Option ℕ
-op_named s name = declared (length s.program.ops) (place_named 0 (map (λ d. d.name) s.program.ops) name)
+op_named s name = declared (length s.program.ops) (index_named 0 (map (λ d. d.name) s.program.ops) name)
 
 -- ---- workers and clients
 

@@ -7,7 +7,7 @@ use Rattle.core_rules.specs.declared.events.Refusal.{Refusal}
 use Rattle.core_rules.specs.declared.events.Refusal.TheVariants as refusal
 use Rattle.core_rules.specs.declared.notes.Note.{Note}
 use Rattle.core_rules.specs.Core.{CoreState, job_numbered}
-use Rattle.core_rules.specs.Changes.{Change, Tried, Refuses, Idles, Makes, plain, input_place, set_input, confirm, cancel, op_named, rebuild, worker_named, client_named, pause, set_rate}
+use Rattle.core_rules.specs.Changes.{Change, Tried, Refuses, Idles, Makes, plain, input_index, set_input, confirm, cancel, op_named, rebuild, worker_named, client_named, pause, set_rate}
 use Rattle.core_rules.specs.Entries.{states, wants}
 use Rattle.core_rules.specs.Orders.{take_by, finish}
 use Rattle.core_rules.specs.Replies.{Reply, next_alone, changed_from, new_conflicts, with_numbers}
@@ -21,7 +21,7 @@ pub data Answer : Type 0 where
 
 -- what an event changes by itself, at a moment that is set already
 abbrev pub change : CoreState → What → Tried
-change s (what.SetInput name v) = set_input s name v (input_place s name) (slice_get s.program.inputs (input_place s name))
+change s (what.SetInput name v) = set_input s name v (input_index s name) (slice_get s.program.inputs (input_index s name))
 change s what.Tick = plain s
 change s (what.SetLevel threshold) = plain (record s { threshold = threshold })
 change s (what.Confirm n) = confirm s (job_numbered s.jobs n)

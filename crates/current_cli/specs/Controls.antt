@@ -7,7 +7,7 @@ use Rattle.value_core.specs.declared.token.Token.TheVariants.{Name}
 use Rattle.value_core.specs.declared.lexing.Stop.{Stop}
 use Rattle.value_core.specs.declared.lexing.Stop.TheVariants as stop
 use Rattle.value_core.specs.Lexing.{lexed}
-use Rattle.value_core.specs.Literals.{kinds, literal_of}
+use Rattle.value_core.specs.Literals.{tokens_in, literal_of}
 use Rattle.current_cli.specs.declared.controls.Control.{Control}
 use Rattle.current_cli.specs.declared.controls.Control.TheVariants.{Nothing, Set, Unknown}
 
@@ -29,4 +29,4 @@ control_at (stop.End place) ks = control_of ks
 
 -- what a line asks for
 unfoldable pub control : List ℕ → Control
-control line = control_at (lexed line).stop (kinds (lexed line).tokens)
+control line = control_at (lexed line).stop (tokens_in (lexed line).tokens)

@@ -6,7 +6,7 @@ use Rattle.value_core.specs.declared.value.Kind.{Kind}
 use Rattle.value_core.specs.declared.value.Kind.TheVariants as kind
 use Rattle.value_core.specs.declared.state.State.{State}
 use Rattle.value_core.specs.Values.{fits_kind}
-use Rattle.op_keys.specs.Names.{place_named}
+use Rattle.op_keys.specs.Names.{index_named}
 use Rattle.term_core.specs.Fresh.{fresh}
 use Rattle.term_core.specs.World.{World}
 use Rattle.term_core.specs.declared.program.Program.{Program}
@@ -72,7 +72,7 @@ answer_at c place v (Some d) = if fits_kind (input_kind d.value) v then accepted
 -- the input of this name is set
 abbrev pub set_input : Core → List ℕ → Value → Answer
 set_input c name v =
-    let place = place_named 0 (map (λ d. d.name) c.program.inputs) name in
+    let place = index_named 0 (map (λ d. d.name) c.program.inputs) name in
     answer_at c place v (slice_get c.program.inputs place)
 
 -- what is answered to what a line asks for

@@ -1,6 +1,6 @@
 //! What a line of the input asks for.
 ghost use Rattle.std.specs.Prelude.{◌≡◌, IfOk};
-ghost use Rattle.value_core.specs.Literals.{kinds};
+ghost use Rattle.value_core.specs.Literals.{tokens_in};
 ghost use Rattle.current_cli.specs.Controls.{control_of, control};
 
 use std::alloc::{AllocError, Global};
@@ -19,7 +19,7 @@ pub(crate) enum Control {
 
 /// What tokens up to the end of a line ask for.
 fn control_in(alloc: Global, tokens: &[Placed]) -> Result<Control, AllocError>
-    ensures { IfOk result (λ c. c ≡ control_of (kinds tokens.now)) }
+    ensures { IfOk result (λ c. c ≡ control_of (tokens_in tokens.now)) }
 {
     match tokens {
         [] => Ok(Control::Nothing),

@@ -2,7 +2,7 @@
 ghost use Rattle.std.specs.Prelude.{◌≡◌, ◌<◌, ◌≤◌, ◌^◌, ◌-◌, ◌+◌, [], map, length, slice_get, nat_lt, MatchOption, Some, None, true, IfOk, OnOk, OnErr};
 ghost use Rattle.std.specs.String.{string_bytes};
 ghost use Rattle.value_core.specs.Values.{fits_kind};
-ghost use Rattle.op_keys.specs.Names.{place_named};
+ghost use Rattle.op_keys.specs.Names.{index_named};
 ghost use Rattle.current_cli.specs.Cores.{Core, IsNumbered, opening, states, states_over, with_input, input_kind};
 ghost use Rattle.term_core.specs.declared.program.InputDecl.{InputDecl};
 ghost use Rattle.current_cli.specs.Settings.{IsSetting};
@@ -16,7 +16,7 @@ use sqlite_items::Boxed;
 use std::alloc::{AllocError, Global};
 use std::marker::Model;
 use std::mem;
-use term_core::{InputDecl, Program, place_of};
+use term_core::{InputDecl, Program, index_of};
 use value_core::{Kind, ListOf, State, Text, Value, is_kind};
 
 /// A program with its version, the values of its inputs, and the states of its nodes over them.
@@ -154,7 +154,7 @@ impl Pipeline {
     ) -> Result<Setting, AllocError>
         ensures { IfOk result (λ s. IsSetting self.now name.now value.now s) }
     {
-        let place = place_of(self.program.inputs.as_slice(), name);
+        let place = index_of(self.program.inputs.as_slice(), name);
         if place == self.inputs.len() {
             return Ok(Setting::UnknownInput);
         }

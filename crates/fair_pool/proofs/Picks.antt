@@ -8,7 +8,7 @@ use Rattle.std.specs.Option.{option_map}
 use Rattle.op_keys.specs.declared.declarations.WorkerDecl.{WorkerDecl}
 use Rattle.fair_pool.specs.Fair.{comes_before, job_before, ticket_of, has_ticket, least_from, least, is_standing, allows, eligible, takes_none, is_paused, is_full, next_ticket, looked_by}
 use Rattle.fair_pool.specs.Flags.{flag_of}
-use Rattle.fair_pool.specs.Kept.{place_of, standing, queue_of, allows_found, allows_job, first_job, looked_for}
+use Rattle.fair_pool.specs.Kept.{rank_of, standing, queue_of, allows_found, allows_job, first_job, looked_for}
 use Rattle.fair_pool.specs.Layouts.{capacity_of, worker_pool}
 use Rattle.fair_pool.specs.Order.{placed, in_order, IsInOrder, Rises}
 use Rattle.fair_pool.specs.Pools.{PoolsState, is_ready_in, pick_of, looked_of}
@@ -126,11 +126,11 @@ abbrev allowed : PoolsState → ℕ → ℕ → Ticket → Bool
 allowed p now w = allows p.layout p.fair (slice_index p.loads) now w
 
 first_found : (p : PoolsState) (now w : ℕ) (qs : List Ticket) → AllByRecursion (λ (k : Ticket). ticket_of k.job p.fair.tickets ≡ Some k) qs →
-    first_job (allows_job p now w) (map place_of qs) ≡ option_map (λ (k : Ticket). k.job) (find (allowed p now w) qs)
+    first_job (allows_job p now w) (map rank_of qs) ≡ option_map (λ (k : Ticket). k.job) (find (allowed p now w) qs)
 first_found p now w [] a = refl
 first_found p now w (q ∷ qs) a =
-    ap (λ o. if allows_found p now w o then Some q.job else first_job (allows_job p now w) (map place_of qs)) a.0
-    ∙ elim (allowed p now w q) as (λ b. (if b then Some q.job else first_job (allows_job p now w) (map place_of qs)) ≡ option_map (λ (k : Ticket). k.job) (cond b (Some q) (find (allowed p now w) qs))) [
+    ap (λ o. if allows_found p now w o then Some q.job else first_job (allows_job p now w) (map rank_of qs)) a.0
+    ∙ elim (allowed p now w q) as (λ b. (if b then Some q.job else first_job (allows_job p now w) (map rank_of qs)) ≡ option_map (λ (k : Ticket). k.job) (cond b (Some q) (find (allowed p now w) qs))) [
       | true ↦ refl
       | false ↦ first_found p now w qs a.1
     ]
@@ -156,11 +156,11 @@ looked_more p now w q qs (Some k) a e =
     omega arith
 
 looked_found : (p : PoolsState) (now w : ℕ) (qs : List Ticket) → AllByRecursion (λ (k : Ticket). ticket_of k.job p.fair.tickets ≡ Some k) qs → Rises comes_before qs →
-    looked_for (allows_job p now w) (map place_of qs) ≡ looked_by qs (find (allowed p now w) qs)
+    looked_for (allows_job p now w) (map rank_of qs) ≡ looked_by qs (find (allowed p now w) qs)
 looked_found p now w [] a r = refl
 looked_found p now w (q ∷ qs) a r =
-    ap (λ o. if allows_found p now w o then 1 else 1 + looked_for (allows_job p now w) (map place_of qs)) a.0
-    ∙ elim (allowed p now w q) as (λ b. (if b then 1 else 1 + looked_for (allows_job p now w) (map place_of qs)) ≡ looked_by (q ∷ qs) (cond b (Some q) (find (allowed p now w) qs))) [
+    ap (λ o. if allows_found p now w o then 1 else 1 + looked_for (allows_job p now w) (map rank_of qs)) a.0
+    ∙ elim (allowed p now w q) as (λ b. (if b then 1 else 1 + looked_for (allows_job p now w) (map rank_of qs)) ≡ looked_by (q ∷ qs) (cond b (Some q) (find (allowed p now w) qs))) [
       | true ↦ sym (ap (λ ls. length ls + 1) (none_before q (q ∷ qs) (not_itself comes_before comes_before_order q, all_since (λ l. comes_before q l ≡ true) (λ l. comes_before l q ≡ false) (λ l e. comes_before_order.asym q l e) qs r.0)))
       | false ↦ ap (λ n. 1 + n) (looked_found p now w qs a.1 r.1) ∙ looked_more p now w q qs (find (allowed p now w) qs) r.0 refl
     ]
@@ -210,7 +210,7 @@ told_queue p w h =
     all_in_order comes_before (λ (k : Ticket). ticket_of k.job p.fair.tickets ≡ Some k) (standing pool p.fair.tickets p.ready) (all_standing (λ (k : Ticket). ticket_of k.job p.fair.tickets ≡ Some k) pool p.fair.tickets p.ready (found_each p.fair.tickets h))
 
 pub first_is_pick : (p : PoolsState) (now w : ℕ) → Rises job_before p.fair.tickets → takes_none p.layout p.fair (slice_index p.loads) w ≡ false →
-    first_job (allows_job p now w) (map place_of (queue_of (worker_pool p.layout (slice_get p.layout.workers w)) p.fair.tickets p.ready)) ≡ pick_of p now w
+    first_job (allows_job p now w) (map rank_of (queue_of (worker_pool p.layout (slice_get p.layout.workers w)) p.fair.tickets p.ready)) ≡ pick_of p now w
 first_is_pick p now w h e =
     let pool = worker_pool p.layout (slice_get p.layout.workers w) in
     first_found p now w (queue_of pool p.fair.tickets p.ready) (told_queue p w h)
@@ -226,7 +226,7 @@ none_is_looked p now w e =
     ap (λ b. if b then 0 else looked_by (filter (is_standing (is_ready_in p) pool) p.fair.tickets) (next_ticket p.layout p.fair (is_ready_in p) (slice_index p.loads) now w)) e
 
 pub looked_is : (p : PoolsState) (now w : ℕ) → Rises job_before p.fair.tickets → takes_none p.layout p.fair (slice_index p.loads) w ≡ false →
-    looked_for (allows_job p now w) (map place_of (queue_of (worker_pool p.layout (slice_get p.layout.workers w)) p.fair.tickets p.ready)) ≡ looked_of p now w
+    looked_for (allows_job p now w) (map rank_of (queue_of (worker_pool p.layout (slice_get p.layout.workers w)) p.fair.tickets p.ready)) ≡ looked_of p now w
 looked_is p now w h e =
     let pool = worker_pool p.layout (slice_get p.layout.workers w) in
     let ks = p.fair.tickets in

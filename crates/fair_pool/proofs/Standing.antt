@@ -8,7 +8,7 @@ use Rattle.std.specs.Prelude.{insert, remove, nat_lt, ◌==◌}
 use Rattle.std.specs.List.{AllByRecursion}
 use Rattle.fair_pool.specs.Fair.{comes_before, job_before, ticket_of, has_ticket, with_ticket, without_ticket}
 use Rattle.fair_pool.specs.Flags.{with_flag, flagged, without_flag}
-use Rattle.fair_pool.specs.Kept.{place_of, place_before, standing, queue_of, QueueState, with_queue, AreQueuesOf}
+use Rattle.fair_pool.specs.Kept.{rank_of, place_before, standing, queue_of, QueueState, with_queue, AreQueuesOf}
 use Rattle.fair_pool.specs.Order.{leading, placed, displaced, in_order, Rises}
 use Rattle.fair_pool.proofs.Before.{comes_before_order, place_before_order, job_before_order, comes_before_other}
 use Rattle.fair_pool.proofs.Ordered.{all_since, placed-placed, length_in_order, displaced-placed, leading-placed, map-placed, Rises-placed}
@@ -136,8 +136,8 @@ length_standing pool [] rs = omega arith
 length_standing pool (k ∷ ks) [] = omega arith
 length_standing pool (k ∷ ks) (r ∷ rs) = cond_both (r && k.pool == pool) (k ∷ standing pool ks rs) (standing pool ks rs) (λ ls. length ls ≤ suc (length ks)) (λ _. let h = length_standing pool ks rs in omega arith) (λ _. let h = length_standing pool ks rs in omega arith)
 
-pub length_queue : (pool : ℕ) (ks : List Ticket) (rs : List Bool) → length (map place_of (queue_of pool ks rs)) ≤ length ks
-length_queue pool ks rs = let a = length-map (queue_of pool ks rs) place_of in let b = length_in_order comes_before (standing pool ks rs) in let c = length_standing pool ks rs in omega arith
+pub length_queue : (pool : ℕ) (ks : List Ticket) (rs : List Bool) → length (map rank_of (queue_of pool ks rs)) ≤ length ks
+length_queue pool ks rs = let a = length-map (queue_of pool ks rs) rank_of in let b = length_in_order comes_before (standing pool ks rs) in let c = length_standing pool ks rs in omega arith
 
 -- a queue with a ticket more, where it is ready and of the pool
 abbrev pub joined : ℕ → Ticket → Bool → List Ticket → List Ticket
@@ -214,49 +214,49 @@ room-with_queue f (suc n) (q ∷ qs) (suc pool) d = room-with_queue f n qs pool 
 
 -- each queue has the places of some tickets, and that of one more where it is ready and of the pool
 abbrev pub Stand : (ℕ → List Ticket) → Ticket → Bool → List QueueState → Type 0
-Stand q k r qs = (pool : ℕ) (d : QueueState) → pool < length qs → (get_or qs pool d).places ≡ map place_of (joined pool k r (q pool))
+Stand q k r qs = (pool : ℕ) (d : QueueState) → pool < length qs → (get_or qs pool d).places ≡ map rank_of (joined pool k r (q pool))
 
-places_placed : (k : Ticket) (ls : List Ticket) → map place_of (placed comes_before k ls) ≡ placed place_before (place_of k) (map place_of ls)
-places_placed k ls = map-placed comes_before place_before place_of (λ x y. refl) k ls
+places_placed : (k : Ticket) (ls : List Ticket) → map rank_of (placed comes_before k ls) ≡ placed place_before (rank_of k) (map rank_of ls)
+places_placed k ls = map-placed comes_before place_before rank_of (λ x y. refl) k ls
 
-put_in : (b : Bool) (k : Ticket) (q : QueueState) (ls : List Ticket) → q.places ≡ map place_of ls →
-    (cond b (changed_queue (placed place_before (place_of k)) q) q).places ≡ map place_of (cond b (placed comes_before k ls) ls)
-put_in true k q ls e = ap (placed place_before (place_of k)) e ∙ sym (places_placed k ls)
+put_in : (b : Bool) (k : Ticket) (q : QueueState) (ls : List Ticket) → q.places ≡ map rank_of ls →
+    (cond b (changed_queue (placed place_before (rank_of k)) q) q).places ≡ map rank_of (cond b (placed comes_before k ls) ls)
+put_in true k q ls e = ap (placed place_before (rank_of k)) e ∙ sym (places_placed k ls)
 put_in false k q ls e = e
 
-pub Stand-put : (q : ℕ → List Ticket) (k : Ticket) (qs : List QueueState) → Stand q k false qs → Stand q k true (with_queue (placed place_before (place_of k)) k.pool qs)
+pub Stand-put : (q : ℕ → List Ticket) (k : Ticket) (qs : List QueueState) → Stand q k false qs → Stand q k true (with_queue (placed place_before (rank_of k)) k.pool qs)
 Stand-put q k qs h pool d l =
-    let n = length-with_queue (placed place_before (place_of k)) k.pool qs in
+    let n = length-with_queue (placed place_before (rank_of k)) k.pool qs in
     let m : pool < length qs = omega arith in
-    ap (λ (x : QueueState). x.places) (at_queue (placed place_before (place_of k)) k.pool qs pool d m) ∙ put_in (k.pool == pool) k (get_or qs pool d) (q pool) (h pool d m)
+    ap (λ (x : QueueState). x.places) (at_queue (placed place_before (rank_of k)) k.pool qs pool d m) ∙ put_in (k.pool == pool) k (get_or qs pool d) (q pool) (h pool d m)
 
-take_out : (b : Bool) (k : Ticket) (q : QueueState) (ls : List Ticket) → q.places ≡ map place_of (cond b (placed comes_before k ls) ls) →
-    (cond b (changed_queue (displaced place_before (place_of k)) q) q).places ≡ map place_of ls
-take_out true k q ls e = ap (displaced place_before (place_of k)) (e ∙ places_placed k ls) ∙ displaced-placed place_before place_before_order (place_of k) (map place_of ls)
+take_out : (b : Bool) (k : Ticket) (q : QueueState) (ls : List Ticket) → q.places ≡ map rank_of (cond b (placed comes_before k ls) ls) →
+    (cond b (changed_queue (displaced place_before (rank_of k)) q) q).places ≡ map rank_of ls
+take_out true k q ls e = ap (displaced place_before (rank_of k)) (e ∙ places_placed k ls) ∙ displaced-placed place_before place_before_order (rank_of k) (map rank_of ls)
 take_out false k q ls e = e
 
-pub Stand-cut : (q : ℕ → List Ticket) (k : Ticket) (qs : List QueueState) → Stand q k true qs → Stand q k false (with_queue (displaced place_before (place_of k)) k.pool qs)
+pub Stand-cut : (q : ℕ → List Ticket) (k : Ticket) (qs : List QueueState) → Stand q k true qs → Stand q k false (with_queue (displaced place_before (rank_of k)) k.pool qs)
 Stand-cut q k qs h pool d l =
-    let n = length-with_queue (displaced place_before (place_of k)) k.pool qs in
+    let n = length-with_queue (displaced place_before (rank_of k)) k.pool qs in
     let m : pool < length qs = omega arith in
-    ap (λ (x : QueueState). x.places) (at_queue (displaced place_before (place_of k)) k.pool qs pool d m) ∙ take_out (k.pool == pool) k (get_or qs pool d) (q pool) (h pool d m)
+    ap (λ (x : QueueState). x.places) (at_queue (displaced place_before (rank_of k)) k.pool qs pool d m) ∙ take_out (k.pool == pool) k (get_or qs pool d) (q pool) (h pool d m)
 
 -- the place of a ready ticket is found in the queue of its pool
 pub Stand-there : (q : ℕ → List Ticket) (k : Ticket) (qs : List QueueState) → Stand q k true qs → k.pool < length qs → (d : QueueState) →
-    leading (λ p. place_before p (place_of k)) (get_or qs k.pool d).places < length (get_or qs k.pool d).places
+    leading (λ p. place_before p (rank_of k)) (get_or qs k.pool d).places < length (get_or qs k.pool d).places
 Stand-there q k qs h l d =
-    let e : (get_or qs k.pool d).places ≡ placed place_before (place_of k) (map place_of (q k.pool)) =
-    h k.pool d l ∙ ap (λ b. map place_of (cond b (placed comes_before k (q k.pool)) (q k.pool))) (eq-eqb k.pool k.pool refl) ∙ places_placed k (q k.pool) in
-    subst (λ ps. leading (λ p. place_before p (place_of k)) ps < length ps) (sym e) (leading-placed place_before place_before_order (place_of k) (map place_of (q k.pool)))
+    let e : (get_or qs k.pool d).places ≡ placed place_before (rank_of k) (map rank_of (q k.pool)) =
+    h k.pool d l ∙ ap (λ b. map rank_of (cond b (placed comes_before k (q k.pool)) (q k.pool))) (eq-eqb k.pool k.pool refl) ∙ places_placed k (q k.pool) in
+    subst (λ ps. leading (λ p. place_before p (rank_of k)) ps < length ps) (sym e) (leading-placed place_before place_before_order (rank_of k) (map rank_of (q k.pool)))
 
 -- what queues are of tickets one of which stands at a place
 pub Stand-from : (ks : List Ticket) (rs : List Bool) (qs : List QueueState) (spare at : ℕ) (k : Ticket) (r : Bool) → at ≤ length ks → length rs ≡ length ks → AllByRecursion (λ (l : Ticket). (l.job == k.job) ≡ false) ks →
     AreQueuesOf (insert ks at k) (insert rs at r) spare qs → Stand (λ pool. queue_of pool ks rs) k r qs
-Stand-from ks rs qs spare at k r l n a h pool d m = (h pool d m).places ∙ ap (map place_of) (queue-insert pool ks rs at k r l n a)
+Stand-from ks rs qs spare at k r l n a h pool d m = (h pool d m).places ∙ ap (map rank_of) (queue-insert pool ks rs at k r l n a)
 
 pub Stand-to : (ks : List Ticket) (rs : List Bool) (qs : List QueueState) (spare at : ℕ) (k : Ticket) (r : Bool) → at ≤ length ks → length rs ≡ length ks → AllByRecursion (λ (l : Ticket). (l.job == k.job) ≡ false) ks →
     Stand (λ pool. queue_of pool ks rs) k r qs → ((pool : ℕ) (d : QueueState) → pool < length qs → length ks + 1 + spare ≤ (get_or qs pool d).room) → AreQueuesOf (insert ks at k) (insert rs at r) spare qs
 Stand-to ks rs qs spare at k r l n a h room pool d m = record {
-  places = h pool d m ∙ ap (map place_of) (sym (queue-insert pool ks rs at k r l n a));
+  places = h pool d m ∙ ap (map rank_of) (sym (queue-insert pool ks rs at k r l n a));
   room = let e = length-insert ks at k l in let f = room pool d m in omega arith;
 }

@@ -7,7 +7,7 @@ use Rattle.std.proofs.lemmas.List.Edits.{length-remove, length-insert}
 use Rattle.std.specs.Prelude.{insert, remove, nat_lt, ◌==◌, if◌then◌else◌}
 use Rattle.std.specs.List.{AllByRecursion}
 use Rattle.fair_pool.specs.Fair.{job_before, ticket_of, has_ticket, without_ticket}
-use Rattle.fair_pool.specs.Kept.{place_of, place_before, queue_of, QueueState, with_queue, AreQueuesOf, IsWaitingKept}
+use Rattle.fair_pool.specs.Kept.{rank_of, place_before, queue_of, QueueState, with_queue, AreQueuesOf, IsWaitingKept}
 use Rattle.fair_pool.specs.Order.{leading, placed, displaced, Rises}
 use Rattle.fair_pool.proofs.Ordered.{leading_within, placed_insert, all_at, all_filter, all_placed, restored, insert-remove, Rises-filter}
 use Rattle.fair_pool.proofs.Standing.{found_at, has_at, without_ticket_at, fresh_others, Rises-with_ticket, length_queue, length-with_queue, room-with_queue, Stand, Stand-put, Stand-cut, Stand-there, Stand-from, Stand-to}
@@ -71,11 +71,11 @@ room_if : (r : Bool) (f : List Place → List Place) (n : ℕ) (qs : List QueueS
 room_if true f n qs pool d = room-with_queue f n qs pool d
 room_if false f n qs pool d = refl
 
-put_if : (q : ℕ → List Ticket) (k : Ticket) (r : Bool) (qs : List QueueState) → Stand q k false qs → Stand q k r (if r then with_queue (placed place_before (place_of k)) k.pool qs else qs)
+put_if : (q : ℕ → List Ticket) (k : Ticket) (r : Bool) (qs : List QueueState) → Stand q k false qs → Stand q k r (if r then with_queue (placed place_before (rank_of k)) k.pool qs else qs)
 put_if q k true qs h = Stand-put q k qs h
 put_if q k false qs h = h
 
-cut_if : (q : ℕ → List Ticket) (k : Ticket) (r : Bool) (qs : List QueueState) → Stand q k r qs → Stand q k false (if r then with_queue (displaced place_before (place_of k)) k.pool qs else qs)
+cut_if : (q : ℕ → List Ticket) (k : Ticket) (r : Bool) (qs : List QueueState) → Stand q k r qs → Stand q k false (if r then with_queue (displaced place_before (rank_of k)) k.pool qs else qs)
 cut_if q k true qs h = Stand-cut q k qs h
 cut_if q k false qs h = h
 
@@ -88,14 +88,14 @@ room_to_add ks rs qs spare m n pool d h l s =
     omega arith
 
 added_at : (ks : List Ticket) (rs : List Bool) (qs : List QueueState) (spare m n : ℕ) (k : Ticket) (r : Bool) → IsWaitingKept ks rs qs spare m n → has_ticket k.job ks ≡ false → k.pool < length qs → 0 < spare →
-    IsWaitingKept (insert ks (rank k.job ks) k) (insert rs (rank k.job ks) r) (if r then with_queue (placed place_before (place_of k)) k.pool qs else qs) (spare - 1) m n
+    IsWaitingKept (insert ks (rank k.job ks) k) (insert rs (rank k.job ks) r) (if r then with_queue (placed place_before (rank_of k)) k.pool qs else qs) (spare - 1) m n
 added_at ks rs qs spare m n k r h fresh l s =
     let at = rank k.job ks in
     let within : at ≤ length ks = leading_within (λ x. nat_lt x.job k.job) ks in
     let in_flags : at ≤ length rs = let f = h.flags in omega arith in
     let lk = length-insert ks at k within in
     let lr = length-insert rs at r in_flags in
-    let f = placed place_before (place_of k) in
+    let f = placed place_before (rank_of k) in
     let qs' = if r then with_queue f k.pool qs else qs in
     let lq : length qs' ≡ length qs = length_if r f k.pool qs in
     record {
@@ -111,9 +111,9 @@ added_at ks rs qs spare m n k r h fresh l s =
     }
 
 pub kept_added : (ks : List Ticket) (rs : List Bool) (qs : List QueueState) (spare m n : ℕ) (k : Ticket) (r : Bool) (at : ℕ) → at ≡ rank k.job ks → IsWaitingKept ks rs qs spare m n → has_ticket k.job ks ≡ false → k.pool < length qs → 0 < spare →
-    IsWaitingKept (insert ks at k) (insert rs at r) (if r then with_queue (placed place_before (place_of k)) k.pool qs else qs) (spare - 1) m n
+    IsWaitingKept (insert ks at k) (insert rs at r) (if r then with_queue (placed place_before (rank_of k)) k.pool qs else qs) (spare - 1) m n
 kept_added ks rs qs spare m n k r at e h fresh l s =
-    subst (λ i. IsWaitingKept (insert ks i k) (insert rs i r) (if r then with_queue (placed place_before (place_of k)) k.pool qs else qs) (spare - 1) m n) (sym e) (added_at ks rs qs spare m n k r h fresh l s)
+    subst (λ i. IsWaitingKept (insert ks i k) (insert rs i r) (if r then with_queue (placed place_before (rank_of k)) k.pool qs else qs) (spare - 1) m n) (sym e) (added_at ks rs qs spare m n k r h fresh l s)
 
 -- ---- a ticket that stands at a place, and the others
 
@@ -173,9 +173,9 @@ split_at job ks rs qs spare m n at k r h s =
     }
 
 pub kept_removed : (job : ℕ) (ks : List Ticket) (rs : List Bool) (qs : List QueueState) (spare m n at : ℕ) (k : Ticket) (r : Bool) → IsWaitingKept ks rs qs spare m n → SplitAt job ks rs qs at k r →
-    IsWaitingKept (remove ks at) (remove rs at) (if r then with_queue (displaced place_before (place_of k)) k.pool qs else qs) spare m n
+    IsWaitingKept (remove ks at) (remove rs at) (if r then with_queue (displaced place_before (rank_of k)) k.pool qs else qs) spare m n
 kept_removed job ks rs qs spare m n at k r h s =
-    let f = displaced place_before (place_of k) in
+    let f = displaced place_before (rank_of k) in
     let qs' = if r then with_queue f k.pool qs else qs in
     let lq : length qs' ≡ length qs = length_if r f k.pool qs in
     let a = length-remove ks at s.within in
@@ -202,24 +202,24 @@ room_to_stand job ks rs qs spare m n at k r h s e d =
 
 -- the place of a ready ticket is in its queue
 pub place_there : (job : ℕ) (ks : List Ticket) (rs : List Bool) (qs : List QueueState) (at : ℕ) (k : Ticket) (r : Bool) → SplitAt job ks rs qs at k r → r ≡ true → (d : QueueState) →
-    leading (λ p. place_before p (place_of k)) (get_or qs k.pool d).places < length (get_or qs k.pool d).places
+    leading (λ p. place_before p (rank_of k)) (get_or qs k.pool d).places < length (get_or qs k.pool d).places
 place_there job ks rs qs at k r s e d = Stand-there (λ pool. queue_of pool (remove ks at) (remove rs at)) k qs (subst (λ b. Stand (λ pool. queue_of pool (remove ks at) (remove rs at)) k b qs) e s.stand) s.pool d
 
 -- the queues, where the flag of a ticket becomes another
 abbrev pub requeued : Ticket → Bool → List QueueState → List QueueState
-requeued k b qs = let qs' = if b then with_queue (placed place_before (place_of k)) k.pool qs else qs in if not b then with_queue (displaced place_before (place_of k)) k.pool qs' else qs'
+requeued k b qs = let qs' = if b then with_queue (placed place_before (rank_of k)) k.pool qs else qs in if not b then with_queue (displaced place_before (rank_of k)) k.pool qs' else qs'
 
 requeued_stand : (q : ℕ → List Ticket) (k : Ticket) (b : Bool) (qs : List QueueState) → Stand q k (not b) qs → Stand q k b (requeued k b qs)
 requeued_stand q k true qs h = Stand-put q k qs h
 requeued_stand q k false qs h = Stand-cut q k qs h
 
 pub length-requeued : (k : Ticket) (b : Bool) (qs : List QueueState) → length (requeued k b qs) ≡ length qs
-length-requeued k true qs = length-with_queue (placed place_before (place_of k)) k.pool qs
-length-requeued k false qs = length-with_queue (displaced place_before (place_of k)) k.pool qs
+length-requeued k true qs = length-with_queue (placed place_before (rank_of k)) k.pool qs
+length-requeued k false qs = length-with_queue (displaced place_before (rank_of k)) k.pool qs
 
 room-requeued : (k : Ticket) (b : Bool) (qs : List QueueState) (pool : ℕ) (d : QueueState) → (get_or (requeued k b qs) pool d).room ≡ (get_or qs pool d).room
-room-requeued k true qs pool d = room-with_queue (placed place_before (place_of k)) k.pool qs pool d
-room-requeued k false qs pool d = room-with_queue (displaced place_before (place_of k)) k.pool qs pool d
+room-requeued k true qs pool d = room-with_queue (placed place_before (rank_of k)) k.pool qs pool d
+room-requeued k false qs pool d = room-with_queue (displaced place_before (rank_of k)) k.pool qs pool d
 
 pub kept_flagged : (job : ℕ) (ks : List Ticket) (rs : List Bool) (qs : List QueueState) (spare m n at : ℕ) (k : Ticket) (r b : Bool) → IsWaitingKept ks rs qs spare m n → SplitAt job ks rs qs at k r → r ≡ not b →
     IsWaitingKept ks (set rs at b) (requeued k b qs) spare m n

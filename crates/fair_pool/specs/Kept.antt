@@ -18,8 +18,8 @@ use Rattle.fair_pool.specs.declared.ticket.Ticket.{Ticket}
 -- ---- queues
 
 -- what of a ticket tells its place in a queue
-abbrev pub place_of : Ticket → Place
-place_of k = record { urgent = k.urgent; start = k.start; job = k.job }
+abbrev pub rank_of : Ticket → Place
+rank_of k = record { urgent = k.urgent; start = k.start; job = k.job }
 
 -- whether a place comes before another, as tickets do
 abbrev pub place_before : Place → Place → Bool
@@ -47,7 +47,7 @@ queue_of pool ks rs = in_order comes_before (standing pool ks rs)
 
 -- a pool's queue has the places of its ready tickets, and room for those of all tickets and more
 pub record IsQueueOf (ks : List Ticket) (rs : List Bool) (spare pool : ℕ) (q : QueueState) : Type 0 where
-  pub places : q.places ≡ map place_of (queue_of pool ks rs)
+  pub places : q.places ≡ map rank_of (queue_of pool ks rs)
   pub room : length ks + spare ≤ q.room
 
 -- each pool has its queue

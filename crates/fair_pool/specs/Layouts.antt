@@ -1,6 +1,6 @@
 -- What is declared. Pools, clients and workers are told by their numbers in file order.
 use Rattle.std.specs.Prelude.{ℕ, nat_lt, if◌then◌else◌, List, length, map, Option, Some, None}
-use Rattle.op_keys.specs.Names.{place_named, client_place}
+use Rattle.op_keys.specs.Names.{index_named, client_index}
 use Rattle.op_keys.specs.declared.declarations.ClientDecl.{ClientDecl}
 use Rattle.op_keys.specs.declared.declarations.PoolDecl.{PoolDecl}
 use Rattle.op_keys.specs.declared.declarations.WorkerDecl.{WorkerDecl}
@@ -13,15 +13,15 @@ pub record Layout : Type 0 where
 
 -- the number of the pool of this name, or how many pools there are where none has it
 abbrev pub pool_number : List PoolDecl → List ℕ → ℕ
-pool_number pools n = place_named 0 (map (λ d. d.name) pools) n
+pool_number pools n = index_named 0 (map (λ d. d.name) pools) n
 
 -- the number of a pool's client of this name, or how many clients there are
 abbrev pub client_number : List ClientDecl → List ℕ → List ℕ → ℕ
-client_number clients pool n = client_place 0 clients pool n
+client_number clients pool n = client_index 0 clients pool n
 
 -- the number of the worker of this name, or how many workers there are
 abbrev pub worker_number : List WorkerDecl → List ℕ → ℕ
-worker_number workers n = place_named 0 (map (λ d. d.name) workers) n
+worker_number workers n = index_named 0 (map (λ d. d.name) workers) n
 
 -- a number that is below a count, and so declared
 abbrev pub declared : ℕ → ℕ → Option ℕ

@@ -1,6 +1,6 @@
 //! What is declared, by names and by numbers.
 ghost use Rattle.std.specs.Prelude.{◌≡◌, ℕ, ◌<◌, ◌≤◌, List, length, map, slice_get, IfOk};
-ghost use Rattle.op_keys.specs.Names.{place_named, client_place};
+ghost use Rattle.op_keys.specs.Names.{index_named, client_index};
 ghost use Rattle.fair_pool.specs.Layouts.{pool_number, client_number, worker_number, worker_pool, capacity_of, hold_of};
 ghost use Rattle.fair_pool.specs.Sound.{IsLayoutSound};
 
@@ -35,8 +35,8 @@ impl Named for WorkerDecl {
 }
 
 /// The place of the first declaration of this name, or how many there are where none has it.
-fn place_of<D: Named>(decls: &[D], name: &str) -> usize
-    ensures place { result ≡ place_named 0 (map D.named decls.now) name.now }
+fn index_of<D: Named>(decls: &[D], name: &str) -> usize
+    ensures place { result ≡ index_named 0 (map D.named decls.now) name.now }
     ensures within { result ≤ length decls.now }
 {
     for (i, decl) in decls.iter().enumerate() {
@@ -48,8 +48,8 @@ fn place_of<D: Named>(decls: &[D], name: &str) -> usize
 }
 
 /// The place of the first client of this pool and name, or how many there are.
-fn place_of_client(clients: &[ClientDecl], pool: &str, name: &str) -> usize
-    ensures place { result ≡ client_place 0 clients.now pool.now name.now }
+fn index_of_client(clients: &[ClientDecl], pool: &str, name: &str) -> usize
+    ensures place { result ≡ client_index 0 clients.now pool.now name.now }
     ensures within { result ≤ length clients.now }
 {
     for (i, client) in clients.iter().enumerate() {
@@ -173,7 +173,7 @@ impl Declared {
         ensures number { result ≡ pool_number self.now.pools name.now }
         ensures few { length self.now.pools ≤ 16 }
     {
-        place_of(self.pools(), name)
+        index_of(self.pools(), name)
     }
 
     /// The number of a client, or how many there are.
@@ -181,7 +181,7 @@ impl Declared {
         ensures number { result ≡ client_number self.now.clients pool.now name.now }
         ensures few { length self.now.clients ≤ 64 }
     {
-        place_of_client(self.clients(), pool, name)
+        index_of_client(self.clients(), pool, name)
     }
 
     /// The number of a worker, or how many there are.
@@ -189,7 +189,7 @@ impl Declared {
         ensures number { result ≡ worker_number self.now.workers name.now }
         ensures few { length self.now.workers ≤ 8 }
     {
-        place_of(self.workers(), name)
+        index_of(self.workers(), name)
     }
 
     /// The number of a worker's pool.
@@ -198,7 +198,7 @@ impl Declared {
         ensures pool { result ≡ worker_pool self.now (slice_get self.now.workers worker) }
         ensures within { result < length self.now.pools }
     {
-        place_of(self.pools(), self.workers[worker as usize].pool.as_str())
+        index_of(self.pools(), self.workers[worker as usize].pool.as_str())
     }
 
     /// How many jobs a worker runs at once.

@@ -1,6 +1,6 @@
 //! What is kept of a queued job, and of a hint.
 ghost use Rattle.std.specs.Prelude.{◌≡◌, IfOk};
-ghost use Rattle.fair_pool.specs.Kept.{place_of, place_before};
+ghost use Rattle.fair_pool.specs.Kept.{rank_of, place_before};
 
 use std::alloc::Global;
 use value_core::{NoMemory, Text};
@@ -63,7 +63,7 @@ impl Ticket {
     }
 
     pub(crate) fn place(&self) -> Place
-        ensures { result ≡ place_of self.now }
+        ensures { result ≡ rank_of self.now }
     {
         Place {
             urgent: self.urgent,

@@ -4,7 +4,7 @@ ghost use Rattle.std.specs.Option.{option_copied};
 ghost use Rattle.std.specs.Vec.{vec_capacity};
 ghost use Rattle.fair_pool.specs.Fair.{ticket_of, has_ticket, with_ticket, without_ticket, job_before};
 ghost use Rattle.fair_pool.specs.Flags.{with_flag, flagged, without_flag};
-ghost use Rattle.fair_pool.specs.Kept.{place_of, place_before, queue_of, with_queue, QueueState};
+ghost use Rattle.fair_pool.specs.Kept.{rank_of, place_before, queue_of, with_queue, QueueState};
 ghost use Rattle.fair_pool.specs.Order.{leading, placed, displaced, Rises};
 
 use crate::queue::Queue;
@@ -167,7 +167,7 @@ impl Waiting {
     /// The places of a pool's ready tickets, the next one first.
     pub(crate) fn queue(&self, pool: usize) -> &[Place]
         requires { pool < self.now.pools }
-        ensures places { result.now ≡ map place_of (queue_of pool self.now.tickets self.now.ready) }
+        ensures places { result.now ≡ map rank_of (queue_of pool self.now.tickets self.now.ready) }
         ensures rising { Rises job_before self.now.tickets }
     {
         self.queues[pool].places()

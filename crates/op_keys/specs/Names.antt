@@ -5,14 +5,14 @@ use Rattle.std.specs.Str.{bytes_eq}
 use Rattle.op_keys.specs.declared.declarations.ClientDecl.{ClientDecl}
 
 -- the place of the first such name, counted from a place on; past the last where nothing has it
-abbrev pub place_named : ℕ → List (List ℕ) → List ℕ → ℕ
-place_named at [] n = at
-place_named at (m ∷ ms) n = if bytes_eq m n then at else place_named (at + 1) ms n
+abbrev pub index_named : ℕ → List (List ℕ) → List ℕ → ℕ
+index_named at [] n = at
+index_named at (m ∷ ms) n = if bytes_eq m n then at else index_named (at + 1) ms n
 
 -- the place of the first client of this pool and name, counted from a place on; past the last where there is none
-abbrev pub client_place : ℕ → List ClientDecl → List ℕ → List ℕ → ℕ
-client_place at [] pool n = at
-client_place at (c ∷ cs) pool n = if bytes_eq c.pool pool && bytes_eq c.name n then at else client_place (at + 1) cs pool n
+abbrev pub client_index : ℕ → List ClientDecl → List ℕ → List ℕ → ℕ
+client_index at [] pool n = at
+client_index at (c ∷ cs) pool n = if bytes_eq c.pool pool && bytes_eq c.name n then at else client_index (at + 1) cs pool n
 
 -- whether no name stands twice
 abbrev pub are_apart : List (List ℕ) → Bool

@@ -7,7 +7,7 @@ use Rattle.value_core.specs.declared.lexing.Placed.{Placed}
 use Rattle.value_core.specs.declared.lexing.Stop.{Stop}
 use Rattle.value_core.specs.declared.lexing.Stop.TheVariants as stop
 use Rattle.value_core.specs.Lexing.{lexed}
-use Rattle.value_core.specs.Literals.{kinds, is_mark_of}
+use Rattle.value_core.specs.Literals.{tokens_in, is_mark_of}
 use Rattle.pipe_text.specs.declared.declaration.Declaration.{Declaration}
 use Rattle.pipe_text.specs.declared.fault.Fault.{Fault}
 use Rattle.pipe_text.specs.declared.fault.Fault.TheVariants.{Lex, Syntax, Limit, Duplicate}
@@ -35,7 +35,7 @@ use Rattle.pipe_text.specs.Readers.{Reader, fault_of, give, seq, Choice, go, bra
 use Rattle.pipe_text.specs.TermReading.{name_choice, name_at, text_choice, text_at, number_choice, number_at, room_choice, room_at, item_choice, item_at, command_word_at, with_text_read, texts_at, items_at, literal_choice, literal_at, Counted, open_choice, open_at, two_at, part_at, with_part, parts_at, body_at, term_at}
 use Rattle.pipe_text.specs.FileReading.{file_bounds, Seen, seen_in, declared_choice, declared_at, paired_choice, paired_at, any_number_choice, any_number_at, optional_text_at, flag_at, value_behind, value_at, where_at, level_at, manner_at, offset_at, period_behind, schedule_at, expiry_at, keeping_at, run_at, op_at, rest_at, decl_at, decls_at, all_at, version_choice, version_at, made, program_at, read_of, told}
 use Rattle.pipe_text.specs.Firsts.{Again, IsNamedAgain, IsRightAnswer}
-use Rattle.pipe_text.proofs.Exactly.{kinds-append}
+use Rattle.pipe_text.proofs.Exactly.{tokens_in-append}
 use Rattle.pipe_text.proofs.Finding.{bind_ok}
 use Rattle.pipe_text.proofs.WordLaws.{decl_letters_are}
 use Rattle.pipe_text.proofs.TermFinds.{finds_letters, finds_keyword}
@@ -425,7 +425,7 @@ pair_again seen m s (t ∷ ts) n p e = (t, ts, refl, pair_of seen m t.token t.pl
 
 -- behind its word a declaration gives a name again
 abbrev RestAgain : Seen → DeclWord → List Placed → List ℕ → ℕ → Type 0
-RestAgain seen w ts n p = (front : List Placed) × (t : Placed) × (after : List Placed) × (ts ≡ front ++ t ∷ after) × (p ≡ t.place) × Tells seen w (kinds front) t.token n
+RestAgain seen w ts n p = (front : List Placed) × (t : Placed) × (after : List Placed) × (ts ≡ front ++ t ∷ after) × (p ≡ t.place) × Tells seen w (tokens_in front) t.token n
 
 new_first : (seen : Seen) (w : DeclWord) (ts : List Placed) (n : List ℕ) (p : ℕ) → NewAgain w seen ts n p → RestAgain seen w ts n p
 new_first seen w ts n p (t, after, parts, (place, name, known)) = ([], t, after, parts, place, inl (refl, name, known))
@@ -444,7 +444,7 @@ is_name_token m (Words j) e = absurd e
 is_name_token m (Mark j) e = absurd e
 is_name_token m LongText e = absurd e
 
-pair_rest : (seen : Seen) (ts front rest : List Placed) (m : List ℕ) (k : Token) (n : List ℕ) (p : ℕ) → ts ≡ front ++ rest → kinds front ≡ k ∷ [] → NameIs file_limits m k → PairAgain seen m rest n p → RestAgain seen decl.Client ts n p
+pair_rest : (seen : Seen) (ts front rest : List Placed) (m : List ℕ) (k : Token) (n : List ℕ) (p : ℕ) → ts ≡ front ++ rest → tokens_in front ≡ k ∷ [] → NameIs file_limits m k → PairAgain seen m rest n p → RestAgain seen decl.Client ts n p
 pair_rest seen ts front rest m k n p parts one name (t, after, split, (place, same, q, pool, known)) =
     (front, t, after, parts ∙ ap (λ (l : List Placed). front ++ l) split, place, inr (refl, q, one ∙ (λ i. is_name_token m k name i ∷ []) ∙ (λ i. Name (same i) ∷ []), pool, known))
 
@@ -470,11 +470,11 @@ rest_again seen decl.Op s ts n p e = named_rest seen decl.Op _ (λ m. never_seq 
 rest_again seen decl.Node s ts n p e = named_rest seen decl.Node _ (λ m. never_as (term_at file_limits 64 (4096 - seen.terms)) _ (never_term file_limits 64 (4096 - seen.terms))) s ts n p e
 
 abbrev DeclAgain : Seen → List Placed → List ℕ → ℕ → Type 0
-DeclAgain seen ts n p = (w : DeclWord) × (front : List Placed) × (t : Placed) × (after : List Placed) × (k2 : List Token) × (ts ≡ front ++ t ∷ after) × (p ≡ t.place) × (kinds front ≡ Name (decl_letters w) ∷ k2) × Tells seen w k2 t.token n
+DeclAgain seen ts n p = (w : DeclWord) × (front : List Placed) × (t : Placed) × (after : List Placed) × (k2 : List Token) × (ts ≡ front ++ t ∷ after) × (p ≡ t.place) × (tokens_in front ≡ Name (decl_letters w) ∷ k2) × Tells seen w k2 t.token n
 
-behind_word : (seen : Seen) (w : DeclWord) (ts front rest : List Placed) (n : List ℕ) (p : ℕ) → ts ≡ front ++ rest → kinds front ≡ Name (decl_letters w) ∷ [] → RestAgain seen w rest n p → DeclAgain seen ts n p
+behind_word : (seen : Seen) (w : DeclWord) (ts front rest : List Placed) (n : List ℕ) (p : ℕ) → ts ≡ front ++ rest → tokens_in front ≡ Name (decl_letters w) ∷ [] → RestAgain seen w rest n p → DeclAgain seen ts n p
 behind_word seen w ts front rest n p parts word (mid, t, after, split, place, tells) =
-    (w, front ++ mid, t, after, kinds mid, parts ∙ ap (λ (l : List Placed). front ++ l) split ∙ sym (append_assoc front mid (t ∷ after)), place, kinds-append front mid ∙ (λ i. word i ++ kinds mid), tells)
+    (w, front ++ mid, t, after, tokens_in mid, parts ∙ ap (λ (l : List Placed). front ++ l) split ∙ sym (append_assoc front mid (t ∷ after)), place, tokens_in-append front mid ∙ (λ i. word i ++ tokens_in mid), tells)
 
 decl_again : (seen : Seen) (s : Stop) (ts : List Placed) (n : List ℕ) (p : ℕ) → Dup (decl_at file_bounds seen s ts) n p → DeclAgain seen ts n p
 unfolding decl_at
@@ -484,13 +484,13 @@ decl_again seen s ts n p e = elim (bind_err (word_at decl_word s ts) (λ z. rest
 ]
 
 abbrev AllAgain : ℕ → List Declaration → List Placed → List ℕ → ℕ → Type 0
-AllAgain v before ts n p = (front : List Placed) × (t : Placed) × (after : List Placed) × (ts ≡ front ++ t ∷ after) × (p ≡ t.place) × (ds : List Declaration) × (w : DeclWord) × (k1 k2 : List Token) × (kinds front ≡ k1 ++ Name (decl_letters w) ∷ k2)
+AllAgain v before ts n p = (front : List Placed) × (t : Placed) × (after : List Placed) × (ts ≡ front ++ t ∷ after) × (p ≡ t.place) × (ds : List Declaration) × (w : DeclWord) × (k1 k2 : List Token) × (tokens_in front ≡ k1 ++ Name (decl_letters w) ∷ k2)
     × DeclareAll file_limits 64 v ds k1 × Again (before ++ ds) w k2 t.token n
 
 first_again : (v : ℕ) (before : List Declaration) (ts : List Placed) (n : List ℕ) (p : ℕ) → DeclAgain (seen_in v before) ts n p → AllAgain v before ts n p
 first_again v before ts n p (w, front, t, after, k2, parts, place, word, tells) = (front, t, after, parts, place, [], w, [], k2, word, refl, subst (λ (ds : List Declaration). Again ds w k2 t.token n) (sym (append-nil before)) tells)
 
-later_again : (v : ℕ) (before : List Declaration) (d : Declaration) (ts front rest : List Placed) (n : List ℕ) (p : ℕ) → ts ≡ front ++ rest → Declares file_limits 64 v d (kinds front) → AllAgain v (before ++ d ∷ []) rest n p → AllAgain v before ts n p
+later_again : (v : ℕ) (before : List Declaration) (d : Declaration) (ts front rest : List Placed) (n : List ℕ) (p : ℕ) → ts ≡ front ++ rest → Declares file_limits 64 v d (tokens_in front) → AllAgain v (before ++ d ∷ []) rest n p → AllAgain v before ts n p
 later_again v before d ts front rest n p parts one_decl (mid, t, after, split, place, ds, w, k1, k2, word, all, again) = (
   front ++ mid,
   t,
@@ -499,10 +499,10 @@ later_again v before d ts front rest n p parts one_decl (mid, t, after, split, p
   place,
   d ∷ ds,
   w,
-  kinds front ++ k1,
+  tokens_in front ++ k1,
   k2,
-  kinds-append front mid ∙ ap (λ (l : List Token). kinds front ++ l) word ∙ sym (append_assoc (kinds front) k1 (Name (decl_letters w) ∷ k2)),
-  (kinds front, k1, refl, one_decl, all),
+  tokens_in-append front mid ∙ ap (λ (l : List Token). tokens_in front ++ l) word ∙ sym (append_assoc (tokens_in front) k1 (Name (decl_letters w) ∷ k2)),
+  (tokens_in front, k1, refl, one_decl, all),
   subst (λ (es : List Declaration). Again es w k2 t.token n) (append_assoc before (d ∷ []) ds) again,
 )
 
@@ -533,7 +533,7 @@ version_never LongText = never_syntax
 never_head : Never (seq (keyword_at (codes "pipeline")) (λ u. version_at))
 never_head = never_seq (keyword_at (codes "pipeline")) (λ u. version_at) (never_keyword (codes "pipeline")) (λ u. never_branch version_choice version_never)
 
-headed_again : (v : ℕ) (ts f1 r1 f2 rest : List Placed) (n : List ℕ) (p : ℕ) → ts ≡ f1 ++ r1 → r1 ≡ f2 ++ rest → kinds f1 ≡ Name (codes "pipeline") ∷ [] → OneVersion v (kinds f2) → AllAgain v [] rest n p → IsNamedAgain ts n p
+headed_again : (v : ℕ) (ts f1 r1 f2 rest : List Placed) (n : List ℕ) (p : ℕ) → ts ≡ f1 ++ r1 → r1 ≡ f2 ++ rest → tokens_in f1 ≡ Name (codes "pipeline") ∷ [] → OneVersion v (tokens_in f2) → AllAgain v [] rest n p → IsNamedAgain ts n p
 headed_again v ts f1 r1 f2 rest n p first second word (is, number) (front, t, after, split, place, ds, w, k1, k2, keyword, all, again) = (
   f1 ++ (f2 ++ front),
   t,
@@ -545,7 +545,7 @@ headed_again v ts f1 r1 f2 rest n p first second word (is, number) (front, t, af
   w,
   Name (codes "pipeline") ∷ Number v ∷ k1,
   k2,
-  rw (kinds-append f1 (f2 ++ front), word, kinds-append f2 front, number, keyword) refl,
+  rw (tokens_in-append f1 (f2 ++ front), word, tokens_in-append f2 front, number, keyword) refl,
   (is, k1, refl, all),
   again,
 )

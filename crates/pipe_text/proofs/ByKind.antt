@@ -1,4 +1,4 @@
--- Declarations by their kinds, as they are printed: they are the same program's, and still within the limits and apart.
+-- Declarations by their tokens_in, as they are printed: they are the same program's, and still within the limits and apart.
 use Rattle.std.proofs.Common.{◌≡◌, ◌≢◌, ℕ, zero, suc, ◌+◌, ◌<◌, ◌≤◌, Bool, true, false, cond, List, [], ◌∷◌, ◌++◌, map, refl, sym, ap, ◌∙◌, arith, inl, inr}
 use Rattle.std.specs.Prelude.{◌==◌, ◌⊎◌, Option, Some, None}
 use Rattle.std.specs.List.{AllByRecursion, IsDistinct, filter_map, cons_option}
@@ -13,7 +13,7 @@ use Rattle.pipe_text.specs.Standing.{input_in, pool_in, client_in, worker_in, op
 use Rattle.pipe_text.specs.Printing.{input_tokens, pool_tokens, client_tokens, worker_tokens, op_tokens, node_tokens}
 use Rattle.pipe_text.proofs.Joined.{total-append}
 
--- ---- kinds
+-- ---- tokens_in
 
 -- a declaration's line
 abbrev pub decl_tokens : Declaration → List Token
@@ -38,7 +38,7 @@ only : ℕ → List Declaration → List Declaration
 only n [] = []
 only n (d ∷ ds) = cond (rank d == n) (d ∷ only n ds) (only n ds)
 
--- those of the kinds from n on, for so many kinds
+-- those of the tokens_in from n on, for so many tokens_in
 groups : ℕ → ℕ → List Declaration → List Declaration
 groups zero n ds = []
 groups (suc k) n ds = only n ds ++ groups k (suc n) ds
@@ -92,7 +92,7 @@ groups_rank (suc k) n ds =
 
 -- ---- names
 
--- declarations of different kinds never have one name
+-- declarations of different tokens_in never have one name
 kinds_apart : (x y : Declaration) → (rank x ≡ rank y) ⊎ (same_name x y ≡ false)
 unfolding rank
 kinds_apart (Input d) (Input e) = inl refl
@@ -169,7 +169,7 @@ if_total : (f : Declaration → ℕ) (b : Bool) (d : Declaration) (ds : List Dec
 if_total f true d ds = refl
 if_total f false d ds = omega arith
 
--- a number of those that are of the kinds from n on
+-- a number of those that are of the tokens_in from n on
 part : (Declaration → ℕ) → ℕ → ℕ → Declaration → ℕ
 part f zero n d = 0
 part f (suc k) n d = cond (rank d == n) (f d) 0 + part f k (suc n) d

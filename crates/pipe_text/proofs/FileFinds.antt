@@ -9,7 +9,7 @@ use Rattle.value_core.specs.declared.value.Value.TheVariants as value
 use Rattle.value_core.specs.declared.lexing.Placed.{Placed}
 use Rattle.value_core.specs.declared.lexing.Stop.{Stop}
 use Rattle.value_core.specs.declared.lexing.Stop.TheVariants as stop
-use Rattle.value_core.specs.Literals.{kinds}
+use Rattle.value_core.specs.Literals.{tokens_in}
 use Rattle.op_keys.specs.declared.declarations.Expiry.{Expiry}
 use Rattle.op_keys.specs.declared.declarations.Expiry.TheVariants.{Never, After, Daily, Monthly}
 use Rattle.op_keys.specs.declared.declarations.OpDecl.{OpDecl}
@@ -100,7 +100,7 @@ use Rattle.pipe_text.specs.FileReading.{
   decl_at,
   decls_at,
 }
-use Rattle.pipe_text.proofs.Exactly.{kinds-append}
+use Rattle.pipe_text.proofs.Exactly.{tokens_in-append}
 use Rattle.pipe_text.proofs.Finding.{Finds, bind_ok, ok_is, finds_same, Nothing, finds_give, Then, finds_seq, Dressed, finds_as, FindsFor, for_if, finds_by, finds_one, Either, finds_peek, is_equal, Single, IsMark, finds_mark}
 use Rattle.pipe_text.proofs.WordLaws.{decl_letters_are, value_letters_are, op_letters_are, period_letters_are, side_letters_are, level_letters_are}
 use Rattle.pipe_text.proofs.TermFinds.{Lettered, finds_letters, finds_keyword, OneName, finds_name, OneText, finds_text, OneNumber, finds_number, either, TextsLang, finds_texts, finds_command_word, finds_items, TermLang, finds_term}
@@ -384,7 +384,7 @@ pub record AllRead (b : Bounds) (v : ℕ) (before all : List Declaration) (s : S
   pub place : ℕ
   pub stopped : s ≡ stop.End place
   pub whole : rest ≡ []
-  pub spelled : DeclareAll b.lim b.depth v more (kinds ts)
+  pub spelled : DeclareAll b.lim b.depth v more (tokens_in ts)
   pub is : all ≡ before ++ more
   pub sound : Sound b before → Sound b all
 
@@ -402,14 +402,14 @@ none_read b v before all (stop.End place) rest e =
     let same : before ≡ all = ap (λ (y : List Declaration × List Placed). y.0) parts in
     record { more = []; place = place; stopped = refl; whole = ap (λ (y : List Declaration × List Placed). y.1) (sym parts); spelled = refl; is = sym same ∙ sym (append-nil before); sound = λ s. subst (Sound b) same s }
 
-read_more : (b : Bounds) (v : ℕ) (before : List Declaration) (d : Declaration) (all : List Declaration) (s : Stop) (front ts rest : List Placed) → DeclLang b (seen_in v before) d (kinds front) → AllRead b v (before ++ d ∷ []) all s ts rest → AllRead b v before all s (front ++ ts) rest
+read_more : (b : Bounds) (v : ℕ) (before : List Declaration) (d : Declaration) (all : List Declaration) (s : Stop) (front ts rest : List Placed) → DeclLang b (seen_in v before) d (tokens_in front) → AllRead b v (before ++ d ∷ []) all s ts rest → AllRead b v before all s (front ++ ts) rest
 read_more b v before d all s front ts rest (one_decl, fits) more =
     record {
       more = d ∷ more.more;
       place = more.place;
       stopped = more.stopped;
       whole = more.whole;
-      spelled = (kinds front, kinds ts, kinds-append front ts, one_decl, more.spelled);
+      spelled = (tokens_in front, tokens_in ts, tokens_in-append front ts, one_decl, more.spelled);
       is = more.is ∙ append_assoc before (d ∷ []) more.more;
       sound = λ s. more.sound (sound_more b v before d s fits);
     }
@@ -426,16 +426,16 @@ decls_read b v (suc n) before all s (t ∷ ts) rest e =
 
 -- ---- a loop over declarations
 
-kinds-length : (ts : List Placed) → length (kinds ts) ≡ length ts
-kinds-length [] = refl
-kinds-length (t ∷ ts) = ap suc (kinds-length ts)
+tokens_in-length : (ts : List Placed) → length (tokens_in ts) ≡ length ts
+tokens_in-length [] = refl
+tokens_in-length (t ∷ ts) = ap suc (tokens_in-length ts)
 
 -- a declaration takes a token
 pub shorter : (b : Bounds) (seen : Seen) (d : Declaration) (s : Stop) (ts rest : List Placed) → decl_at b seen s ts ≡ Ok (d, rest) → length rest < length ts
 shorter b seen d s ts rest e =
     let f = (finds_decl b seen).found s ts d rest e in
-    let some : 0 < length (kinds f.0) = some_tokens b.lim b.depth seen.version d (kinds f.0) f.2.0 in
-    let same = kinds-length f.0 in
+    let some : 0 < length (tokens_in f.0) = some_tokens b.lim b.depth seen.version d (tokens_in f.0) f.2.0 in
+    let same = tokens_in-length f.0 in
     let sum = length-append f.0 rest in
     rw f.1 (omega (arith, some, same, sum))
 

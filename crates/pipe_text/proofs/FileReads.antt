@@ -9,7 +9,7 @@ use Rattle.value_core.specs.declared.value.Value.TheVariants as value
 use Rattle.value_core.specs.declared.lexing.Placed.{Placed}
 use Rattle.value_core.specs.declared.lexing.Stop.{Stop}
 use Rattle.value_core.specs.declared.lexing.Stop.TheVariants as stop
-use Rattle.value_core.specs.Literals.{kinds}
+use Rattle.value_core.specs.Literals.{tokens_in}
 use Rattle.op_keys.specs.declared.declarations.Expiry.{Expiry}
 use Rattle.op_keys.specs.declared.declarations.Expiry.TheVariants.{Never, After, Daily, Monthly}
 use Rattle.op_keys.specs.declared.level.Level.{Level}
@@ -99,7 +99,7 @@ use Rattle.pipe_text.specs.FileReading.{
   decl_at,
   decls_at,
 }
-use Rattle.pipe_text.proofs.Exactly.{ReadsIf, Any, Takes, reads_if, reads_give, reads_seq, reads_then, reads_as, reads_branch, reads_yes, reads_no, reads_mark, reads_word, Not, split_kinds, nil_of, cons_is}
+use Rattle.pipe_text.proofs.Exactly.{ReadsIf, Any, Takes, reads_if, reads_give, reads_seq, reads_then, reads_as, reads_branch, reads_yes, reads_no, reads_mark, reads_word, Not, split_tokens_in, nil_of, cons_is}
 use Rattle.pipe_text.proofs.WordLaws.{decl_word_is, value_word_is, op_word_is, period_word_is, side_word_is, level_word_is}
 use Rattle.pipe_text.proofs.TermReads.{Under, reads_name, reads_text, reads_number, reads_texts, reads_items, NoString, reads_no_word, reads_one_word, all_read}
 use Rattle.pipe_text.proofs.Joined.{Fits, Sound, next_fits}
@@ -112,11 +112,11 @@ abbrev pub Leads : (Token → Bool) → List Token → Type 0
 Leads test [] = ⊥
 Leads test (k ∷ ks) = test k ≡ false
 
-lead_next : (test : Token → Bool) (front rest : List Placed) (ks : List Token) → kinds front ≡ ks → Leads test ks → Not test (front ++ rest)
+lead_next : (test : Token → Bool) (front rest : List Placed) (ks : List Token) → tokens_in front ≡ ks → Leads test ks → Not test (front ++ rest)
 lead_next test [] rest [] e l = absurd l
 lead_next test [] rest (k ∷ ks) e l = absurd cc
 lead_next test (t ∷ front) rest [] e l = absurd l
-lead_next test (t ∷ front) rest (k ∷ ks) e l = rw (cons_is t.token k (kinds front) ks e).0 l
+lead_next test (t ∷ front) rest (k ∷ ks) e l = rw (cons_is t.token k (tokens_in front) ks e).0 l
 
 leads_optional : {A : Type 0} (test : Token → Bool) (letters : List ℕ) (L : A → List Token → Type 0) (d a : A) (ks more : List Token) → test (Name letters) ≡ false → Optional letters L d a ks → Leads test more → Leads test (ks ++ more)
 leads_optional test letters L d a ks more other (is_given b ls l) h = other
@@ -143,7 +143,7 @@ reads_keyword letters e = reads_word (only letters) letters tt e
 reads_behind : {A : Type 0} (P : List Placed → Type 0) (letters : List ℕ) (r q : Reader A) (a : A) (ks : List Token) → only letters letters ≡ Some tt → is_keyword letters (Name letters) ≡ true → ReadsIf P r a ks → ReadsIf P (if_keyword letters r q) a (Name letters ∷ ks)
 reads_behind P letters r q a ks e is x = reads_yes P (is_keyword letters) (seq (keyword_at letters) (λ u. r)) q (Name letters) a ks is (reads_then P (keyword_at letters) (λ u. r) tt a (Name letters ∷ []) ks (reads_keyword letters e) x)
 
-raw_pass : {A : Type 0} (letters : List ℕ) (r q : Reader A) (a : A) → Takes q a [] → (s : Stop) (front rest : List Placed) → kinds front ≡ [] → Not (is_keyword letters) rest → if_keyword letters r q s (front ++ rest) ≡ Ok (a, rest)
+raw_pass : {A : Type 0} (letters : List ℕ) (r q : Reader A) (a : A) → Takes q a [] → (s : Stop) (front rest : List Placed) → tokens_in front ≡ [] → Not (is_keyword letters) rest → if_keyword letters r q s (front ++ rest) ≡ Ok (a, rest)
 raw_pass letters r q a x s [] rest e n = rw n (x.reads s [] rest refl tt)
 raw_pass letters r q a x s (t ∷ front) rest e n = absurd cc
 
@@ -201,9 +201,9 @@ weaken : {A : Type 0} (P Q : List Placed → Type 0) (r : Reader A) (a : A) (ks 
 weaken P Q r a ks to x = record { reads = λ s front rest e p. x.reads s front rest e (to rest p) }
 
 -- behind an optional part the token that isn't its word comes next, or that of what follows
-next_optional : {A : Type 0} (test : Token → Bool) (letters : List ℕ) (L : A → List Token → Type 0) (d a : A) (ks : List Token) → test (Name letters) ≡ false → Optional letters L d a ks → (front rest : List Placed) → kinds front ≡ ks → Not test rest → Not test (front ++ rest)
+next_optional : {A : Type 0} (test : Token → Bool) (letters : List ℕ) (L : A → List Token → Type 0) (d a : A) (ks : List Token) → test (Name letters) ≡ false → Optional letters L d a ks → (front rest : List Placed) → tokens_in front ≡ ks → Not test rest → Not test (front ++ rest)
 next_optional test letters L d a ks other (is_given b ls l) [] rest e h = absurd cc
-next_optional test letters L d a ks other (is_given b ls l) (t ∷ front) rest e h = rw (cons_is t.token (Name letters) (kinds front) ls e).0 other
+next_optional test letters L d a ks other (is_given b ls l) (t ∷ front) rest e h = rw (cons_is t.token (Name letters) (tokens_in front) ls e).0 other
 next_optional test letters L d a ks other is_absent [] rest e h = h
 next_optional test letters L d a ks other is_absent (t ∷ front) rest e h = absurd cc
 
@@ -220,7 +220,7 @@ reads_manner lim wide x ks u (is_manner h f l kh ku kl oh ou ol) =
     let urgent : Token → Bool = is_keyword (codes "urgent") in
     let m : Manner = record { hint = h; urgent = f; level = l } in
     reads_seq NoSetting (Not hint) (optional_text_at wide (codes "hint")) _ h m kh (ku ++ kl)
-    (λ front rest e p. let parts = split_kinds front ku kl e in rw (parts.2, append_assoc parts.0 parts.1 rest)
+    (λ front rest e p. let parts = split_tokens_in front ku kl e in rw (parts.2, append_assoc parts.0 parts.1 rest)
     (next_optional hint (codes "urgent") On false f ku refl ou parts.0 (parts.1 ++ rest) parts.3 (next_optional hint (codes "level") LevelIs level.Average l kl refl ol parts.1 rest parts.4 p.0)))
     (reads_optional (codes "hint") (seq (text_at wide) (λ y. give (Some y))) (SomeText lim) None h kh refl refl (λ b ls g. reads_some_text lim wide b ls u g) oh)
     (reads_seq NoSetting (Not urgent) (flag_at (codes "urgent")) _ f m ku kl
@@ -235,7 +235,7 @@ reads_offset lim wide o ks u (s, n, k, is, parts, l) = rw (is, parts) (reads_the
 abbrev NoExpiry : List Placed → Type 0
 NoExpiry rest = Not (is_keyword (codes "valid_for")) rest × Not (is_keyword (codes "schedule")) rest
 
-raw_never : (wide : Limits) (v : ℕ) (b : Bool) (s : Stop) (front rest : List Placed) → (v == 2) ≡ b → kinds front ≡ [] → NoExpiry rest → expiry_at wide v s (front ++ rest) ≡ Ok (Never, rest)
+raw_never : (wide : Limits) (v : ℕ) (b : Bool) (s : Stop) (front rest : List Placed) → (v == 2) ≡ b → tokens_in front ≡ [] → NoExpiry rest → expiry_at wide v s (front ++ rest) ≡ Ok (Never, rest)
 unfolding expiry_at
 raw_never wide v true s [] rest is e (first, second) = rw (first, is, second) refl
 raw_never wide v false s [] rest is e (first, second) = rw (first, is) refl
@@ -401,13 +401,13 @@ no_watch_word decl.Worker = refl
 no_watch_word decl.Op = refl
 no_watch_word decl.Node = refl
 
-behind_first : (ts : List Placed) (ks more : List Token) (w : DeclWord) → kinds ts ≡ ks → ks ≡ Name (decl_letters w) ∷ more → Behind ts
+behind_first : (ts : List Placed) (ks more : List Token) (w : DeclWord) → tokens_in ts ≡ ks → ks ≡ Name (decl_letters w) ∷ more → Behind ts
 behind_first [] ks more w e is = absurd cc
-behind_first (t ∷ ts) ks more w e is = let first = (cons_is t.token (Name (decl_letters w)) (kinds ts) more (e ∙ is)).0 in (rw first refl, rw first (no_watch_word w))
+behind_first (t ∷ ts) ks more w e is = let first = (cons_is t.token (Name (decl_letters w)) (tokens_in ts) more (e ∙ is)).0 in (rw first refl, rw first (no_watch_word w))
 
-pub behind_all : (lim : Limits) (depth v : ℕ) (ds : List Declaration) (ts : List Placed) → DeclareAll lim depth v ds (kinds ts) → Behind ts
+pub behind_all : (lim : Limits) (depth v : ℕ) (ds : List Declaration) (ts : List Placed) → DeclareAll lim depth v ds (tokens_in ts) → Behind ts
 behind_all lim depth v [] ts none = rw (nil_of ts none) (refl, refl)
-behind_all lim depth v (d ∷ ds) ts (k1, k2, parts, x, more) = let f = first_of lim depth v d k1 x in behind_first ts (kinds ts) (f.1 ++ k2) f.0 refl (parts ∙ (λ i. f.2 i ++ k2))
+behind_all lim depth v (d ∷ ds) ts (k1, k2, parts, x, more) = let f = first_of lim depth v d k1 x in behind_first ts (tokens_in ts) (f.1 ++ k2) f.0 refl (parts ∙ (λ i. f.2 i ++ k2))
 
 no_tokens_first : (w : DeclWord) (more : List Token) → [] ≡ Name (decl_letters w) ∷ more → ⊥
 no_tokens_first w more e = cc
@@ -422,28 +422,28 @@ unfolding decls_at
 next_so b v n before all d place [] f2 some e h = absurd (omega (arith, some))
 next_so b v n before all d place (t ∷ f1) f2 some e h = rw e h
 
-kinds-length : (ts : List Placed) → length (kinds ts) ≡ length ts
-kinds-length [] = refl
-kinds-length (t ∷ ts) = ap suc (kinds-length ts)
+tokens_in-length : (ts : List Placed) → length (tokens_in ts) ≡ length ts
+tokens_in-length [] = refl
+tokens_in-length (t ∷ ts) = ap suc (tokens_in-length ts)
 
 -- Declarations that are spelled so are read up to the end, where they keep the bounds.
 pub all_declared : (lim : Limits) (depth : ℕ) (b : Bounds) (v : ℕ) (ds : List Declaration) → Under lim b.lim → depth ≤ b.depth
-    → (before : List Declaration) (n place : ℕ) (ts : List Placed) → DeclareAll lim depth v ds (kinds ts) → length ts ≤ n → Sound b (before ++ ds) → decls_at b v n before (stop.End place) ts ≡ Ok (before ++ ds, [])
+    → (before : List Declaration) (n place : ℕ) (ts : List Placed) → DeclareAll lim depth v ds (tokens_in ts) → length ts ≤ n → Sound b (before ++ ds) → decls_at b v n before (stop.End place) ts ≡ Ok (before ++ ds, [])
 all_declared lim depth b v [] u deep before n place ts none few sound = rw (nil_of ts none, append-nil before) (ends_so b v n before place)
 all_declared lim depth b v (d ∷ ds) u deep before zero place ts (k1, k2, parts, x, more) few sound =
     let some = some_tokens lim depth v d k1 x in
-    let same = kinds-length ts in
+    let same = tokens_in-length ts in
     let sum = length-append k1 k2 in
-    let whole : length (kinds ts) ≡ length (k1 ++ k2) = ap length parts in
+    let whole : length (tokens_in ts) ≡ length (k1 ++ k2) = ap length parts in
     absurd (omega (arith, some, same, sum, whole, few))
 all_declared lim depth b v (d ∷ ds) u deep before (suc n) place ts (k1, k2, parts, x, more) few sound =
-    let split = split_kinds ts k1 k2 parts in
-    let rest_spelled : DeclareAll lim depth v ds (kinds split.1) = rw split.4 more in
+    let split = split_tokens_in ts k1 k2 parts in
+    let rest_spelled : DeclareAll lim depth v ds (tokens_in split.1) = rw split.4 more in
     let fits = next_fits b v before d ds sound in
     let read = (reads_decl lim depth b (seen_in v before) d k1 u deep (λ m. no_client m before) x fits).reads (stop.End place) split.0 split.1 split.3 (behind_all lim depth v ds split.1 rest_spelled) in
     let some = some_tokens lim depth v d k1 x in
-    let same = kinds-length split.0 in
-    let kept : length (kinds split.0) ≡ length k1 = ap length split.3 in
+    let same = tokens_in-length split.0 in
+    let kept : length (tokens_in split.0) ≡ length k1 = ap length split.3 in
     let sum = length-append split.0 split.1 in
     let whole : length ts ≡ length (split.0 ++ split.1) = ap length split.2 in
     let shorter : length split.1 ≤ n = omega (arith, some, same, kept, sum, whole, few) in

@@ -9,7 +9,7 @@ use Rattle.value_core.specs.declared.lexing.Placed.{Placed}
 use Rattle.value_core.specs.declared.lexing.Stop.{Stop}
 use Rattle.value_core.specs.declared.lexing.Stop.TheVariants as stop
 use Rattle.value_core.specs.Lexing.{lexed}
-use Rattle.value_core.specs.Literals.{kinds}
+use Rattle.value_core.specs.Literals.{tokens_in}
 use Rattle.term_core.specs.declared.program.Program.{Program}
 use Rattle.pipe_text.specs.declared.declaration.Declaration.{Declaration}
 use Rattle.pipe_text.specs.declared.declaration.Declaration.TheVariants as declare
@@ -25,7 +25,7 @@ use Rattle.pipe_text.specs.Readers.{◌>>=◌, Reader, fault_of, seq, keyword_at
 use Rattle.pipe_text.specs.TermReading.{beyond}
 use Rattle.pipe_text.specs.FileReading.{Bounds, file_bounds, seen_in, decl_at, decls_at, all_at, version_choice, version_at, made, program_at, read_of}
 use Rattle.pipe_text.specs.Firsts.{Sound, File, FileIs, IsFile, Begins, GoesOn, SameLimit, RightAt, RightAtStop, IsRight, IsRightFault}
-use Rattle.pipe_text.proofs.Exactly.{kinds-append}
+use Rattle.pipe_text.proofs.Exactly.{tokens_in-append}
 use Rattle.pipe_text.proofs.Finding.{Then, is_equal}
 use Rattle.pipe_text.proofs.FileFinds.{Keyword, shorter, enough}
 use Rattle.pipe_text.proofs.WholeFile.{OneVersion, file_read}
@@ -94,13 +94,13 @@ none_judged b v before (stop.End p) f e = absurd cc
 
 decl_judged : (b : Bounds) (v : ℕ) (before : List Declaration) (s : Stop) (t : Placed) (ts : List Placed) (f : Fault) → decl_at b (seen_in v before) s (t ∷ ts) ≡ Err f → Judged b v before s (t ∷ ts) f
 decl_judged b v before s t ts f one_err = elim ((part_decl b (seen_in v before)).local.err s (t ∷ ts) f one_err) [
-  | inl (is, begins, all) ↦ inl (is, begins_one b v before (kinds (t ∷ ts)) begins, λ e' w. all_open e' v before s t ts ∙ err_stays _ _ _ (all e' w))
+  | inl (is, begins, all) ↦ inl (is, begins_one b v before (tokens_in (t ∷ ts)) begins, λ e' w. all_open e' v before s t ts ∙ err_stays _ _ _ (all e' w))
   | inr (front, u, after, parts, says, local) ↦ inr (
     front,
     u,
     after,
     parts,
-    says_wider (DeclG b v) (AllG b v before) [] u f (kinds front) (begins_one b v before (kinds front)) (goes_one b v before (kinds front ++ u.token ∷ [])) says,
+    says_wider (DeclG b v) (AllG b v before) [] u f (tokens_in front) (begins_one b v before (tokens_in front)) (goes_one b v before (tokens_in front ++ u.token ∷ [])) says,
     λ e' s' after' up. let h = first_token front after' u in open_at e' v before s' (front ++ u ∷ after') h.0 h.1 h.2 ∙ err_stays _ _ _ (local e' s' after' up),
   )
 ]
@@ -108,7 +108,7 @@ decl_judged b v before s t ts f one_err = elim ((part_decl b (seen_in v before))
 later_judged : (b : Bounds) (v : ℕ) (before : List Declaration) (s : Stop) (t : Placed) (ts : List Placed) (f : Fault) (d : Declaration) (rest : List Placed) → Taken b (λ e. decl_at e (seen_in v before)) (DeclG b v) s (t ∷ ts) d rest → Judged b v (before ++ d ∷ []) s rest f → Judged b v before s (t ∷ ts) f
 later_judged b v before s t ts f d rest (front, parts, g, on) (inl (is, begins, all)) = inl (
   is,
-  subst (λ (l : List Placed). Begins (AllG b v before) (kinds l)) (sym parts) (rw (kinds-append front rest) (begins_more b v before d (kinds front) (kinds rest) g begins)),
+  subst (λ (l : List Placed). Begins (AllG b v before) (tokens_in l)) (sym parts) (rw (tokens_in-append front rest) (begins_more b v before d (tokens_in front) (tokens_in rest) g begins)),
   λ e' w. all_open e' v before s t ts ∙ ok_goes _ _ _ _ (ap (decl_at e' (seen_in v before) s) parts ∙ on e' s rest w (same_self s rest)) (all e' w),
 )
 later_judged b v before s t ts f d rest (front, parts, g, on) (inr (mid, u, after, split, says, local)) = inr (
@@ -116,7 +116,7 @@ later_judged b v before s t ts f d rest (front, parts, g, on) (inr (mid, u, afte
   u,
   after,
   parts ∙ ap (λ (l : List Placed). front ++ l) split ∙ sym (append_assoc front mid (u ∷ after)),
-  rw (kinds-append front mid) (says_wider (AllG b v (before ++ d ∷ [])) (AllG b v before) (kinds front) u f (kinds mid) (begins_more b v before d (kinds front) (kinds mid) g) (goes_more b v before d (kinds front) (kinds mid ++ u.token ∷ []) g) says),
+  rw (tokens_in-append front mid) (says_wider (AllG b v (before ++ d ∷ [])) (AllG b v before) (tokens_in front) u f (tokens_in mid) (begins_more b v before d (tokens_in front) (tokens_in mid) g) (goes_more b v before d (tokens_in front) (tokens_in mid ++ u.token ∷ []) g) says),
   λ e' s' after' up.
       let h = first_token (front ++ mid) after' u in
       open_at e' v before s' ((front ++ mid) ++ u ∷ after') h.0 h.1 h.2
@@ -183,10 +183,10 @@ goes_file b v k1 ks (u, a1, a2, parts, word, (is, number)) (all, rest, (more, sa
 
 -- the fault of a file, at these bounds and at wider ones
 abbrev FileEnded : Bounds → Stop → List Placed → Fault → Type 0
-FileEnded b s ts f = (f ≡ fault_of s) × Begins (FileG b) (kinds ts) × ((e : Bounds) → Wider b e → program_at e s ts ≡ Err f)
+FileEnded b s ts f = (f ≡ fault_of s) × Begins (FileG b) (tokens_in ts) × ((e : Bounds) → Wider b e → program_at e s ts ≡ Err f)
 
 abbrev FileAtToken : Bounds → List Placed → Fault → Type 0
-FileAtToken b ts f = (front : List Placed) × (t : Placed) × (after : List Placed) × (ts ≡ front ++ t ∷ after) × Says (FileG b) (kinds front) t f
+FileAtToken b ts f = (front : List Placed) × (t : Placed) × (after : List Placed) × (ts ≡ front ++ t ∷ after) × Says (FileG b) (tokens_in front) t f
     × ((e : Bounds) (s : Stop) (after' : List Placed) → Up f b e → program_at e s (front ++ t ∷ after') ≡ Err f)
 
 pub made_err : (v : ℕ) (r : Result (List Declaration × List Placed) Fault) (f : Fault) → made v r ≡ Err f → r ≡ Err f
@@ -199,15 +199,15 @@ made_stays v r f e = rw e refl
 head_judged : (b : Bounds) (s : Stop) (ts : List Placed) (f : Fault) → Head b s ts ≡ Err f → FileEnded b s ts f ⊎ FileAtToken b ts f
 unfolding program_at
 head_judged b s ts f e = elim ((local_head b).err s ts f e) [
-  | inl (is, begins, all) ↦ inl (is, begins_head b (kinds ts) begins, λ e' w. err_stays _ _ _ (all e' w))
-  | inr (front, u, after, parts, says, local) ↦ inr (front, u, after, parts, says_wider HeadG (FileG b) [] u f (kinds front) (begins_head b (kinds front)) (goes_head b (kinds front ++ u.token ∷ [])) says, λ e' s' after' up. err_stays _ _ _ (local e' s' after' up))
+  | inl (is, begins, all) ↦ inl (is, begins_head b (tokens_in ts) begins, λ e' w. err_stays _ _ _ (all e' w))
+  | inr (front, u, after, parts, says, local) ↦ inr (front, u, after, parts, says_wider HeadG (FileG b) [] u f (tokens_in front) (begins_head b (tokens_in front)) (goes_head b (tokens_in front ++ u.token ∷ [])) says, λ e' s' after' up. err_stays _ _ _ (local e' s' after' up))
 ]
 
 rest_judged : (b : Bounds) (s : Stop) (ts : List Placed) (f : Fault) (v : ℕ) (rest : List Placed) → Taken b Head HeadG s ts v rest → Judged b v [] s rest f → FileEnded b s ts f ⊎ FileAtToken b ts f
 unfolding program_at
 rest_judged b s ts f v rest (front, parts, g, on) (inl (is, begins, all)) = inl (
   is,
-  rw (parts, kinds-append front rest) (begins_file b v (kinds front) (kinds rest) g begins),
+  rw (parts, tokens_in-append front rest) (begins_file b v (tokens_in front) (tokens_in rest) g begins),
   λ e' w. ok_goes _ _ _ _ (ap (Head e' s) parts ∙ on e' s rest w (same_self s rest)) (made_stays v _ f (all e' w)),
 )
 rest_judged b s ts f v rest (front, parts, g, on) (inr (mid, u, after, split, says, local)) = inr (
@@ -215,7 +215,7 @@ rest_judged b s ts f v rest (front, parts, g, on) (inr (mid, u, after, split, sa
   u,
   after,
   parts ∙ ap (λ (l : List Placed). front ++ l) split ∙ sym (append_assoc front mid (u ∷ after)),
-  rw (kinds-append front mid) (says_wider (AllG b v []) (FileG b) (kinds front) u f (kinds mid) (begins_file b v (kinds front) (kinds mid) g) (goes_file b v (kinds front) (kinds mid ++ u.token ∷ []) g) says),
+  rw (tokens_in-append front mid) (says_wider (AllG b v []) (FileG b) (tokens_in front) u f (tokens_in mid) (begins_file b v (tokens_in front) (tokens_in mid) g) (goes_file b v (tokens_in front) (tokens_in mid ++ u.token ∷ []) g) says),
   λ e' s' after' up. rw (append_assoc front mid (u ∷ after')) (ok_goes _ _ _ _ (on e' s' (mid ++ u ∷ after') up.0 (subst (λ (l : List Placed). SameNext s l s' (mid ++ u ∷ after')) (sym split) (next_along s s' mid after after' u))) (made_stays v _ f (local e' s' after' up))),
 )
 
@@ -308,16 +308,16 @@ placed : List Token → List Placed
 placed [] = []
 placed (k ∷ ks) = record { token = k; place = 0 } ∷ placed ks
 
-kinds-placed : (ks : List Token) → kinds (placed ks) ≡ ks
+tokens_in-placed : (ks : List Token) → tokens_in (placed ks) ≡ ks
 unfolding placed
-kinds-placed [] = refl
-kinds-placed (k ∷ ks) = ap (λ (l : List Token). k ∷ l) (kinds-placed ks)
+tokens_in-placed [] = refl
+tokens_in-placed (k ∷ ks) = ap (λ (l : List Token). k ∷ l) (tokens_in-placed ks)
 
-with_more : (front : List Placed) (t : Placed) (more : List Token) → kinds (front ++ t ∷ placed more) ≡ kinds front ++ t.token ∷ more
-with_more front t more = kinds-append front (t ∷ placed more) ∙ ap (λ (l : List Token). kinds front ++ t.token ∷ l) (kinds-placed more)
+with_more : (front : List Placed) (t : Placed) (more : List Token) → tokens_in (front ++ t ∷ placed more) ≡ tokens_in front ++ t.token ∷ more
+with_more front t more = tokens_in-append front (t ∷ placed more) ∙ ap (λ (l : List Token). tokens_in front ++ t.token ∷ l) (tokens_in-placed more)
 
 -- a file within some bounds is read at wider ones
-read_wider : (c e : Bounds) (f : File) (place : ℕ) (ts : List Placed) → Wider c e → FileIs c f (kinds ts) → program_at e (stop.End place) ts ≡ Ok (program_of f.0 f.1)
+read_wider : (c e : Bounds) (f : File) (place : ℕ) (ts : List Placed) → Wider c e → FileIs c f (tokens_in ts) → program_at e (stop.End place) ts ≡ Ok (program_of f.0 f.1)
 read_wider c e f place ts w (spelled, sound) = file_read c.lim c.depth e f.0 f.1 place ts w.lim w.depth spelled (sound_wider c e f.1 w sound)
 
 never_both : (r : Result Program Fault) (p : Program) (f : Fault) → r ≡ Ok p → r ≡ Err f → ⊥
@@ -325,10 +325,10 @@ never_both (Ok q) p f e h = cc
 never_both (Err g) p f e h = cc
 
 -- A file that went on with the token would be read, at its own bounds.
-none_goes_on : (b : Bounds) (front : List Placed) (t : Placed) (f : Fault) → ((e : Bounds) (s : Stop) (after : List Placed) → Up f b e → program_at e s (front ++ t ∷ after) ≡ Err f) → (c : Bounds) → SameNamed f b c → (a : File) (more : List Token) → FileIs c a (kinds front ++ t.token ∷ more) → ⊥
+none_goes_on : (b : Bounds) (front : List Placed) (t : Placed) (f : Fault) → ((e : Bounds) (s : Stop) (after : List Placed) → Up f b e → program_at e s (front ++ t ∷ after) ≡ Err f) → (c : Bounds) → SameNamed f b c → (a : File) (more : List Token) → FileIs c a (tokens_in front ++ t.token ∷ more) → ⊥
 none_goes_on b front t f local c same a more is =
     let j = join b c in
-    let spelled : FileIs c a (kinds (front ++ t ∷ placed more)) = rw (with_more front t more) is in
+    let spelled : FileIs c a (tokens_in (front ++ t ∷ placed more)) = rw (with_more front t more) is in
     never_both (program_at j (stop.End 0) (front ++ t ∷ placed more)) (program_of a.0 a.1) f (read_wider c j a 0 (front ++ t ∷ placed more) (join_right b c) spelled) (local j (stop.End 0) (placed more) (join_up f b c same))
 
 in_file : (b : Bounds) (f : File) (ks : List Token) → FileG b f ks → IsFile f ks
@@ -340,15 +340,15 @@ begins_in b ks (x, k, rest, h) = (x, k, rest, in_file b x (ks ++ k ∷ rest) h)
 goes_in : (b : Bounds) (ks : List Token) → GoesOn (FileG b) ks → GoesOn IsFile ks
 goes_in b ks (x, rest, h) = (x, rest, in_file b x (ks ++ rest) h)
 
-right_at : (b : Bounds) (front : List Placed) (t : Placed) (f : Fault) → Says (FileG b) (kinds front) t f → ((e : Bounds) (s : Stop) (after : List Placed) → Up f b e → program_at e s (front ++ t ∷ after) ≡ Err f) → RightAt b (kinds front) t f
+right_at : (b : Bounds) (front : List Placed) (t : Placed) (f : Fault) → Says (FileG b) (tokens_in front) t f → ((e : Bounds) (s : Stop) (after : List Placed) → Up f b e → program_at e s (front ++ t ∷ after) ≡ Err f) → RightAt b (tokens_in front) t f
 right_at b front t (Lex p) says local = says
-right_at b front t (Syntax p) (is, begins) local = (is, begins_in b (kinds front) begins, λ a more (c, stands). none_goes_on b front t (Syntax p) local c tt a more stands)
-right_at b front t (Limit m n p) (is, number, goes) local = (is, number, goes_in b (kinds front ++ t.token ∷ []) goes, λ a more c same stands. none_goes_on b front t (Limit m n p) local c same a more stands)
-right_at b front t (Duplicate n p) (is, goes) local = (is, goes_in b (kinds front ++ t.token ∷ []) goes, λ a more c same stands. none_goes_on b front t (Duplicate n p) local c same a more stands)
+right_at b front t (Syntax p) (is, begins) local = (is, begins_in b (tokens_in front) begins, λ a more (c, stands). none_goes_on b front t (Syntax p) local c tt a more stands)
+right_at b front t (Limit m n p) (is, number, goes) local = (is, number, goes_in b (tokens_in front ++ t.token ∷ []) goes, λ a more c same stands. none_goes_on b front t (Limit m n p) local c same a more stands)
+right_at b front t (Duplicate n p) (is, goes) local = (is, goes_in b (tokens_in front ++ t.token ∷ []) goes, λ a more c same stands. none_goes_on b front t (Duplicate n p) local c same a more stands)
 
-right_at_stop : (b : Bounds) (s : Stop) (ts : List Placed) (f : Fault) → Begins (FileG b) (kinds ts) → ((e : Bounds) → Wider b e → program_at e s ts ≡ Err f) → RightAtStop s (kinds ts)
-right_at_stop b (stop.Lex p) ts f begins all = begins_in b (kinds ts) begins
-right_at_stop b (stop.End p) ts f begins all = (begins_in b (kinds ts) begins, λ a (c, stands). never_both (program_at (join b c) (stop.End p) ts) (program_of a.0 a.1) f (read_wider c (join b c) a p ts (join_right b c) stands) (all (join b c) (join_left b c)))
+right_at_stop : (b : Bounds) (s : Stop) (ts : List Placed) (f : Fault) → Begins (FileG b) (tokens_in ts) → ((e : Bounds) → Wider b e → program_at e s ts ≡ Err f) → RightAtStop s (tokens_in ts)
+right_at_stop b (stop.Lex p) ts f begins all = begins_in b (tokens_in ts) begins
+right_at_stop b (stop.End p) ts f begins all = (begins_in b (tokens_in ts) begins, λ a (c, stands). never_both (program_at (join b c) (stop.End p) ts) (program_of a.0 a.1) f (read_wider c (join b c) a p ts (join_right b c) stands) (all (join b c) (join_left b c)))
 
 is_right : (b : Bounds) (s : Stop) (ts : List Placed) (f : Fault) → program_at b s ts ≡ Err f → IsRight b s ts f
 is_right b s ts f e = elim (file_judged b s ts f e) [

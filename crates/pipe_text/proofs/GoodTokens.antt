@@ -21,7 +21,7 @@ use Rattle.value_core.specs.Texts.{no_nul}
 use Rattle.value_core.specs.Strings.{step, with_byte, later, go_on, body_at}
 use Rattle.value_core.specs.Tokens.{is_mark, is_letter, is_word_byte, gap, number_of, number_token, word_token, sized, string_at, token_at, found_at, next_at}
 use Rattle.value_core.specs.Lexing.{lexed_next, lexed_from, lexed}
-use Rattle.value_core.specs.Literals.{kinds}
+use Rattle.value_core.specs.Literals.{tokens_in}
 use Rattle.value_core.proofs.Scans.{body_no_nul}
 use Rattle.term_core.specs.Limits.{is_name, is_text}
 
@@ -169,7 +169,7 @@ next_fine bytes from =
 
 -- all are good, and behind a place they take no more bytes than are left
 abbrev pub AllFine : ℕ → ℕ → List Placed → Type 0
-AllFine from size ts = AllByRecursion IsGood (kinds ts) × (bytes_in (kinds ts) ≤ size - from)
+AllFine from size ts = AllByRecursion IsGood (tokens_in ts) × (bytes_in (tokens_in ts) ≤ size - from)
 
 more_fine : (from size : ℕ) (r : Result Next ℕ) (rest : ℕ → Tokens) → FineNext from size r → ((at : ℕ) → AllFine at size (rest at).tokens) → AllFine from size (lexed_next size r rest).tokens
 more_fine from size (Ok (Found token place end)) rest (good, some, few) more = let h = more end in let fits = h.1 in ((good, h.0), omega (arith, some, few, fits))
@@ -190,10 +190,10 @@ pub record Good (ks : List Token) : Type 0 where
   pub small : bytes_in ks ≤ 1048576
 
 -- bytes of whatever number have tokens in form
-pub all_good : (bytes : List ℕ) → AllByRecursion IsGood (kinds (lexed bytes).tokens)
+pub all_good : (bytes : List ℕ) → AllByRecursion IsGood (tokens_in (lexed bytes).tokens)
 all_good bytes = (lexed_fine bytes).0
 
-pub good_tokens : (bytes : List ℕ) → length bytes ≤ 1048576 → Good (kinds (lexed bytes).tokens)
+pub good_tokens : (bytes : List ℕ) → length bytes ≤ 1048576 → Good (tokens_in (lexed bytes).tokens)
 good_tokens bytes few = let f = lexed_fine bytes in let h = f.1 in record { each = f.0; small = omega (arith, h, few) }
 
 pub bytes_append : (ks ls : List Token) → bytes_in (ks ++ ls) ≡ bytes_in ks + bytes_in ls

@@ -6,12 +6,12 @@ use Rattle.value_core.specs.declared.lexing.Placed.{Placed}
 use Rattle.pipe_text.specs.declared.fault.Fault.{Fault}
 use Rattle.pipe_text.specs.declared.fault.Fault.TheVariants.{Lex, Syntax, Limit, Duplicate}
 use Rattle.value_core.specs.declared.lexing.Stop.{Stop}
-use Rattle.value_core.specs.Literals.{kinds}
+use Rattle.value_core.specs.Literals.{tokens_in}
 use Rattle.pipe_text.specs.Readers.{◌>>=◌, Reader, fault_of, give, seq, Choice, go, branch, peek, next_passes}
 use Rattle.pipe_text.specs.LimitTable.{number_of}
 use Rattle.pipe_text.specs.FileReading.{Bounds}
 use Rattle.pipe_text.specs.Firsts.{Begins, GoesOn}
-use Rattle.pipe_text.proofs.Exactly.{kinds-append}
+use Rattle.pipe_text.proofs.Exactly.{tokens_in-append}
 use Rattle.pipe_text.proofs.Finding.{bind_ok, Nothing, Then, Either}
 use Rattle.pipe_text.proofs.Wider.{Wider, Up, wider_refl, up_refl}
 
@@ -35,15 +35,15 @@ Says G ks t (Limit m n p) = (p ≡ t.place) × (n ≡ number_of m) × GoesOn G (
 Says G ks t (Duplicate n p) = (p ≡ t.place) × GoesOn G (ks ++ t.token ∷ [])
 
 abbrev pub Taken : {A : Type 0} → Bounds → (Bounds → Reader A) → (A → List Token → Type 0) → Stop → List Placed → A → List Placed → Type 0
-Taken b r G s ts a rest = (front : List Placed) × (ts ≡ front ++ rest) × G a (kinds front)
+Taken b r G s ts a rest = (front : List Placed) × (ts ≡ front ++ rest) × G a (tokens_in front)
     × ((e : Bounds) (s' : Stop) (rest' : List Placed) → Wider b e → SameNext s rest s' rest' → r e s' (front ++ rest') ≡ Ok (a, rest'))
 
 abbrev pub AtToken : {A : Type 0} → Bounds → (Bounds → Reader A) → (A → List Token → Type 0) → List Placed → Fault → Type 0
-AtToken b r G ts f = (front : List Placed) × (t : Placed) × (after : List Placed) × (ts ≡ front ++ t ∷ after) × Says G (kinds front) t f
+AtToken b r G ts f = (front : List Placed) × (t : Placed) × (after : List Placed) × (ts ≡ front ++ t ∷ after) × Says G (tokens_in front) t f
     × ((e : Bounds) (s : Stop) (after' : List Placed) → Up f b e → r e s (front ++ t ∷ after') ≡ Err f)
 
 abbrev pub Ended : {A : Type 0} → Bounds → (Bounds → Reader A) → (A → List Token → Type 0) → Stop → List Placed → Fault → Type 0
-Ended b r G s ts f = (f ≡ fault_of s) × Begins G (kinds ts) × ((e : Bounds) → Wider b e → r e s ts ≡ Err f)
+Ended b r G s ts f = (f ≡ fault_of s) × Begins G (tokens_in ts) × ((e : Bounds) → Wider b e → r e s ts ≡ Err f)
 
 pub record Local {A : Type 0} (b : Bounds) (r : Bounds → Reader A) (G : A → List Token → Type 0) : Type 0 where
   pub ok : (s : Stop) (ts : List Placed) (a : A) (rest : List Placed) → r b s ts ≡ Ok (a, rest) → Taken b r G s ts a rest
@@ -87,10 +87,10 @@ goes_to G H to ks (a, rest, g) = (a, rest, to a (ks ++ rest) g)
 
 pub local_same : {A : Type 0} (b : Bounds) (r : Bounds → Reader A) (G H : A → List Token → Type 0) → Local b r G → Implies G H → Local b r H
 local_same b r G H x to = record {
-  ok = λ s ts a rest e. let o = x.ok s ts a rest e in (o.0, o.1, to a (kinds o.0) o.2, o.3);
+  ok = λ s ts a rest e. let o = x.ok s ts a rest e in (o.0, o.1, to a (tokens_in o.0) o.2, o.3);
   err = λ s ts f e. elim (x.err s ts f e) [
     | inl (is, begins, all) ↦ inl (is, begins_to G H to _ begins, all)
-    | inr (front, t, after, parts, says, local) ↦ inr (front, t, after, parts, says_wider G H [] t f (kinds front) (begins_to G H to _) (goes_to G H to _) says, local)
+    | inr (front, t, after, parts, says, local) ↦ inr (front, t, after, parts, says_wider G H [] t f (tokens_in front) (begins_to G H to _) (goes_to G H to _) says, local)
   ];
 }
 
@@ -140,21 +140,21 @@ local_seq {A} {B} b r q G H some x y = record {
       let second = (y m.0.0 (s, ts, m.0.1, m.1)).ok s m.0.1 c rest m.2 in (
         first.0 ++ second.0,
         first.1 ∙ ap (λ (l : List Placed). first.0 ++ l) second.1 ∙ sym (append_assoc first.0 second.0 rest),
-        (m.0.0, kinds first.0, kinds second.0, kinds-append first.0 second.0, first.2, second.2),
+        (m.0.0, tokens_in first.0, tokens_in second.0, tokens_in-append first.0 second.0, first.2, second.2),
         λ e' s' rest' w n. rw (append_assoc first.0 second.0 rest') (ok_goes _ _ _ _ (first.3 e' s' (second.0 ++ rest') w (subst (λ (l : List Placed). SameNext s l s' (second.0 ++ rest')) (sym second.1) (same_along s s' second.0 rest rest' n))) (second.3 e' s' rest' w n)),
       );
   err = λ s ts f e. elim (bind_err (r b s ts) (λ z. q b z.0 s z.1) f e) [
     | inl one ↦ elim (x.err s ts f one) [
-      | inl (is, begins, all) ↦ inl (is, begins_first G H some (kinds ts) begins, λ e' w. err_stays _ _ _ (all e' w))
+      | inl (is, begins, all) ↦ inl (is, begins_first G H some (tokens_in ts) begins, λ e' w. err_stays _ _ _ (all e' w))
       | inr (front, t, after, parts, says, local) ↦
-          inr (front, t, after, parts, says_wider G (Then G H) [] t f (kinds front) (begins_first G H some _) (goes_first G H some _) says, λ e' s' after' u. err_stays _ _ _ (local e' s' after' u))
+          inr (front, t, after, parts, says_wider G (Then G H) [] t f (tokens_in front) (begins_first G H some _) (goes_first G H some _) says, λ e' s' after' u. err_stays _ _ _ (local e' s' after' u))
     ]
     | inr (z, good, two) ↦
         let first = x.ok s ts z.0 z.1 good in
         elim ((y z.0 (s, ts, z.1, good)).err s z.1 f two) [
           | inl (is, begins, all) ↦ inl (
             is,
-            rw (first.1, kinds-append first.0 z.1) (begins_second G H z.0 (kinds first.0) (kinds z.1) first.2 begins),
+            rw (first.1, tokens_in-append first.0 z.1) (begins_second G H z.0 (tokens_in first.0) (tokens_in z.1) first.2 begins),
             λ e' w. ap (seq (r e') (q e') s) first.1 ∙ ok_goes _ _ _ _ (first.3 e' s z.1 w (same_self s z.1)) (all e' w),
           )
           | inr (front, t, after, parts, says, local) ↦
@@ -163,7 +163,7 @@ local_seq {A} {B} b r q G H some x y = record {
                 t,
                 after,
                 first.1 ∙ ap (λ (l : List Placed). first.0 ++ l) parts ∙ sym (append_assoc first.0 front (t ∷ after)),
-                rw (kinds-append first.0 front) (says_wider (H z.0) (Then G H) (kinds first.0) t f (kinds front) (begins_second G H z.0 (kinds first.0) (kinds front) first.2) (goes_second G H z.0 (kinds first.0) (kinds front ++ t.token ∷ []) first.2) says),
+                rw (tokens_in-append first.0 front) (says_wider (H z.0) (Then G H) (tokens_in first.0) t f (tokens_in front) (begins_second G H z.0 (tokens_in first.0) (tokens_in front) first.2) (goes_second G H z.0 (tokens_in first.0) (tokens_in front ++ t.token ∷ []) first.2) says),
                 λ e' s' after' u. rw (append_assoc first.0 front (t ∷ after')) (ok_goes _ _ _ _ (first.3 e' s' (front ++ t ∷ after') u.0 (subst (λ (l : List Placed). SameNext s l s' (front ++ t ∷ after')) (sym parts) (next_along s s' front after after' t))) (local e' s' after' u)),
               )
         ]
@@ -201,7 +201,7 @@ branch_err {A} b table G some x s (t ∷ ts) f e = elim (x t.token) [
   | inr (r, is, l) ↦ elim (l.err s ts f (sym (go_on (table b t.token) (r b) t.place s ts (is b (wider_refl b))) ∙ e)) [
     | inl (stopped, begins, all) ↦ inl (stopped, begins, λ e' w. go_on (table e' t.token) (r e') t.place s ts (is e' w) ∙ all e' w)
     | inr (front, u, after, parts, says, local) ↦
-        inr (t ∷ front, u, after, ap (λ (y : List Placed). t ∷ y) parts, says_wider (λ a more. G a (t.token ∷ more)) G (t.token ∷ []) u f (kinds front) (λ z. z) (λ z. z) says, λ e' s' after' up. go_on (table e' t.token) (r e') t.place s' (front ++ u ∷ after') (is e' (up.0)) ∙ local e' s' after' up)
+        inr (t ∷ front, u, after, ap (λ (y : List Placed). t ∷ y) parts, says_wider (λ a more. G a (t.token ∷ more)) G (t.token ∷ []) u f (tokens_in front) (λ z. z) (λ z. z) says, λ e' s' after' up. go_on (table e' t.token) (r e') t.place s' (front ++ u ∷ after') (is e' (up.0)) ∙ local e' s' after' up)
   ]
 ]
 
@@ -255,24 +255,24 @@ local_peek {A} b test r q G H x y = record {
   ];
   err = λ s ts f e. elim (which (next_passes test ts)) [
     | inl yes_t ↦ elim (x.err s ts f (sym (pick_yes test (r b) (q b) s ts yes_t) ∙ e)) [
-      | inl (is, begins, all) ↦ inl (is, begins_to G (Either G H) (λ a ks l. inl l) (kinds ts) begins, λ e' w. pick_yes test (r e') (q e') s ts yes_t ∙ all e' w)
+      | inl (is, begins, all) ↦ inl (is, begins_to G (Either G H) (λ a ks l. inl l) (tokens_in ts) begins, λ e' w. pick_yes test (r e') (q e') s ts yes_t ∙ all e' w)
       | inr (front, u, after, parts, says, local) ↦ inr (
         front,
         u,
         after,
         parts,
-        says_to G (Either G H) (λ a ks l. inl l) (kinds front) u f says,
+        says_to G (Either G H) (λ a ks l. inl l) (tokens_in front) u f says,
         λ e' s' after' up. pick_yes test (r e') (q e') s' (front ++ u ∷ after') (test_kept test s s' ts front (u ∷ after) (u ∷ after') true yes_t parts (inl (u, after, after', refl, refl))) ∙ local e' s' after' up,
       )
     ]
     | inr no_t ↦ elim (y.err s ts f (sym (pick_no test (r b) (q b) s ts no_t) ∙ e)) [
-      | inl (is, begins, all) ↦ inl (is, begins_to H (Either G H) (λ a ks l. inr l) (kinds ts) begins, λ e' w. pick_no test (r e') (q e') s ts no_t ∙ all e' w)
+      | inl (is, begins, all) ↦ inl (is, begins_to H (Either G H) (λ a ks l. inr l) (tokens_in ts) begins, λ e' w. pick_no test (r e') (q e') s ts no_t ∙ all e' w)
       | inr (front, u, after, parts, says, local) ↦ inr (
         front,
         u,
         after,
         parts,
-        says_to H (Either G H) (λ a ks l. inr l) (kinds front) u f says,
+        says_to H (Either G H) (λ a ks l. inr l) (tokens_in front) u f says,
         λ e' s' after' up. pick_no test (r e') (q e') s' (front ++ u ∷ after') (test_kept test s s' ts front (u ∷ after) (u ∷ after') false no_t parts (inl (u, after, after', refl, refl))) ∙ local e' s' after' up,
       )
     ]

@@ -11,7 +11,7 @@ use Rattle.value_core.specs.declared.token.Next.TheVariants.{Found, End}
 use Rattle.value_core.specs.declared.token.Token.{Token}
 use Rattle.value_core.specs.declared.token.Token.TheVariants.{Name, Number, Words, Mark, LongName, LongText}
 use Rattle.value_core.specs.Lexing.{lexed_next, lexed_from, lexed}
-use Rattle.value_core.specs.Literals.{kinds}
+use Rattle.value_core.specs.Literals.{tokens_in}
 use Rattle.value_core.specs.Tokens.{is_blank, is_mark, is_word_byte, gap, token_at, found_at, next_at}
 use Rattle.pipe_text.specs.Printing.{token_text, opens, closes, space_before, spaced, line_text}
 use Rattle.pipe_text.proofs.GoodTokens.{IsGood}
@@ -79,7 +79,7 @@ next_blank front b l e =
 -- ---- all tokens
 
 abbrev Gives : ℕ → List Token → Tokens → Type 0
-Gives size ks t = (kinds t.tokens ≡ ks) × (t.stop ≡ stop.End size)
+Gives size ks t = (tokens_in t.tokens ≡ ks) × (t.stop ≡ stop.End size)
 
 -- Whatever stands before, from here on the bytes are read as these tokens.
 pub record Lexes (l : List ℕ) (ks : List Token) : Type 0 where
@@ -182,6 +182,6 @@ lines_lex (ks ∷ lines) (line, h) =
     subst (λ (l : List ℕ). Lexes l (ks ++ flat_map (λ ks. ks) lines)) (sym (append_assoc (spaced true ks) (codes "\n") rest)) all
 
 -- Printed lines are read as their tokens, to the end.
-pub lines_lexed : (lines : List (List Token)) → AllByRecursion IsLine lines → (kinds (lexed (flat_map line_text lines)).tokens ≡ flat_map (λ ks. ks) lines) × ((lexed (flat_map line_text lines)).stop ≡ stop.End (length (flat_map line_text lines)))
+pub lines_lexed : (lines : List (List Token)) → AllByRecursion IsLine lines → (tokens_in (lexed (flat_map line_text lines)).tokens ≡ flat_map (λ ks. ks) lines) × ((lexed (flat_map line_text lines)).stop ≡ stop.End (length (flat_map line_text lines)))
 unfolding lexed
 lines_lexed lines h = (lines_lex lines h).lexes [] (suc (length (flat_map line_text lines))) (omega arith)

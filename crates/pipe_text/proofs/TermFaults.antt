@@ -16,7 +16,7 @@ use Rattle.pipe_text.specs.declared.fault.Fault.{Fault}
 use Rattle.value_core.specs.declared.lexing.Stop.{Stop}
 use Rattle.value_core.specs.declared.lexing.Placed.{Placed}
 use Rattle.pipe_text.specs.Words.{body_letters, body_word, fun_letters, fun_word, kind_letters, kind_word}
-use Rattle.value_core.specs.Literals.{kinds, is_mark_of}
+use Rattle.value_core.specs.Literals.{tokens_in, is_mark_of}
 use Rattle.pipe_text.specs.Readers.{◌>>=◌, Reader, give, seq, peek, mark_at, word_at}
 use Rattle.pipe_text.specs.Grammar.{Limits, NameIs, IsLiteral, is_unit, form, one, many, Spells, is_return, is_fail, is_input, is_node, is_var, is_map, is_pair, is_bind, is_list_map, is_list_iter, is_catch, is_state, is_gate, is_all, is_build, is_output, no_more, one_more}
 use Rattle.pipe_text.specs.TermReading.{name_at, text_at, literal_at, Counted, open_at, two_at, part_at, with_part, parts_at, body_at, term_at}
@@ -94,7 +94,7 @@ local_part l d n k x =
 part_counts : (l : Limits) (d n : ℕ) (s : Stop) (ts rest : List Placed) (a : Counted) → part_at (term_at l d) n s ts ≡ Ok (Some a, rest) → (0 < a.1) × (a.1 ≤ n)
 part_counts l d n s ts rest a e =
     let f = (finds_part l d n (term_at l d) (λ left. finds_term l d left)).found s ts (Some a) rest e in
-    let h : 0 < a.1 = (begun l d a.1 (one a.0) (kinds f.0) f.2.1).0 in
+    let h : 0 < a.1 = (begun l d a.1 (one a.0) (tokens_in f.0) f.2.1).0 in
     (h, f.2.0)
 
 abbrev PartsStep : (ℕ → Reader Counted) → ℕ → ℕ → Reader (List Term × ℕ)

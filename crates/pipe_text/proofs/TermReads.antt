@@ -16,7 +16,7 @@ use Rattle.value_core.specs.declared.lexing.Stop.{Stop}
 use Rattle.pipe_text.specs.declared.fault.LimitName.{LimitName}
 use Rattle.pipe_text.specs.declared.fault.LimitName.TheVariants as limit
 use Rattle.pipe_text.specs.Words.{body_letters, body_word, fun_letters, fun_word, kind_letters, kind_word}
-use Rattle.value_core.specs.Literals.{kinds, is_mark_of}
+use Rattle.value_core.specs.Literals.{tokens_in, is_mark_of}
 use Rattle.pipe_text.specs.Readers.{Reader, give, seq, mark_at, word_at, is_string, next_passes}
 use Rattle.pipe_text.specs.Grammar.{
   Limits,
@@ -117,9 +117,9 @@ opens d n some = rw (some_is n some, some_is (suc d) (omega arith)) refl
 abbrev pub Closes : List Placed → Type 0
 Closes rest = (t : Placed) × (more : List Placed) × (rest ≡ t ∷ more) × (t.token ≡ Mark 41)
 
-mark_closes : (front rest : List Placed) → kinds front ≡ Mark 41 ∷ [] → Any rest → Closes (front ++ rest)
+mark_closes : (front rest : List Placed) → tokens_in front ≡ Mark 41 ∷ [] → Any rest → Closes (front ++ rest)
 mark_closes [] rest e p = absurd cc
-mark_closes (t ∷ front) rest e p = (t, front ++ rest, refl, (cons_is t.token (Mark 41) (kinds front) [] e).0)
+mark_closes (t ∷ front) rest e p = (t, front ++ rest, refl, (cons_is t.token (Mark 41) (tokens_in front) [] e).0)
 
 reads_form : (lim : Limits) (d left : ℕ) (w : BodyWord) (x : Counted) (ks : List Token) → 0 < left → ReadsIf Closes (body_at lim (term_at lim d) (left - 1) w) x ks → Takes (term_at lim (suc d) left) x (form w ks)
 unfolding term_at
@@ -196,7 +196,7 @@ reads_items lim wide (t ∷ ts) ks u (k, more, parts, is, few, rest) =
 abbrev pub NoString : List Placed → Type 0
 NoString rest = next_passes is_string rest ≡ false
 
-raw_no_word : (wide : Limits) (n : ℕ) (s : Stop) (front rest : List Placed) → kinds front ≡ [] → NoString rest → command_word_at wide n s (front ++ rest) ≡ Ok (None, rest)
+raw_no_word : (wide : Limits) (n : ℕ) (s : Stop) (front rest : List Placed) → tokens_in front ≡ [] → NoString rest → command_word_at wide n s (front ++ rest) ≡ Ok (None, rest)
 unfolding command_word_at
 raw_no_word wide n s [] rest e p = rw p refl
 raw_no_word wide n s (t ∷ front) rest e p = absurd cc
@@ -270,7 +270,7 @@ begun lim d m w ks (is_output c i j z k a b ka kb h x y) = (omega arith, _, refl
 begun lim d m w ks (no_more c) = tt
 begun lim d m w ks (one_more c i j a more ka k x y) = tt
 
-raw_none : (r : ℕ → Reader Counted) (n : ℕ) (s : Stop) (front rest : List Placed) → kinds front ≡ [] → Closes rest → part_at r n s (front ++ rest) ≡ Ok (None, rest)
+raw_none : (r : ℕ → Reader Counted) (n : ℕ) (s : Stop) (front rest : List Placed) → tokens_in front ≡ [] → Closes rest → part_at r n s (front ++ rest) ≡ Ok (None, rest)
 unfolding part_at
 raw_none r n s [] rest e (t, more, is, mark) = let no_open : is_mark_of 40 t.token ≡ false = rw mark refl in rw (is, no_open) refl
 raw_none r n s (x ∷ front) rest e c = absurd cc

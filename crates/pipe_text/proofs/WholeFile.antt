@@ -13,7 +13,7 @@ use Rattle.value_core.specs.declared.lexing.Stop.TheVariants as stop
 use Rattle.value_core.specs.declared.lexing.Tokens.{Tokens}
 use Rattle.value_core.specs.Tokens.{next_at}
 use Rattle.value_core.specs.Lexing.{lexed_next, lexed_from, lexed}
-use Rattle.value_core.specs.Literals.{kinds}
+use Rattle.value_core.specs.Literals.{tokens_in}
 use Rattle.term_core.specs.declared.program.Program.{Program}
 use Rattle.pipe_text.specs.declared.declaration.Declaration.{Declaration}
 use Rattle.pipe_text.specs.declared.fault.Fault.{Fault}
@@ -24,7 +24,7 @@ use Rattle.pipe_text.specs.Standing.{Reads, file_limits, IsSpelled, StandsFor, p
 use Rattle.pipe_text.specs.Readers.{give, seq, keyword_at}
 use Rattle.pipe_text.specs.TermReading.{beyond}
 use Rattle.pipe_text.specs.FileReading.{Bounds, file_bounds, version_choice, version_at, all_at, made, program_at, read_of, told}
-use Rattle.pipe_text.proofs.Exactly.{kinds-append, split_kinds, Any, Takes, reads_branch, reads_give}
+use Rattle.pipe_text.proofs.Exactly.{tokens_in-append, split_tokens_in, Any, Takes, reads_branch, reads_give}
 use Rattle.pipe_text.proofs.Finding.{Finds, FindsFor, for_if, finds_by, finds_one, is_equal, bind_ok, ok_is}
 use Rattle.pipe_text.proofs.TermReads.{Under, under_refl}
 use Rattle.pipe_text.proofs.TermFinds.{finds_keyword}
@@ -90,12 +90,12 @@ pub record FileRead (b : Bounds) (p : Program) (s : Stop) (ts : List Placed) : T
   pub declarations : List Declaration
   pub place : ℕ
   pub ended : s ≡ stop.End place
-  pub spelled : FileSpells b.lim b.depth version declarations (kinds ts)
+  pub spelled : FileSpells b.lim b.depth version declarations (tokens_in ts)
   pub is : p ≡ program_of version declarations
   pub sound : Sound b declarations
 
-headed : (ts f1 r1 f2 r2 : List Placed) (v : ℕ) → ts ≡ f1 ++ r1 → r1 ≡ f2 ++ r2 → kinds f1 ≡ Name (codes "pipeline") ∷ [] → kinds f2 ≡ Number v ∷ [] → kinds ts ≡ Name (codes "pipeline") ∷ Number v ∷ kinds r2
-headed ts f1 r1 f2 r2 v first second word number = rw (first, kinds-append f1 r1, word, second, kinds-append f2 r2, number) refl
+headed : (ts f1 r1 f2 r2 : List Placed) (v : ℕ) → ts ≡ f1 ++ r1 → r1 ≡ f2 ++ r2 → tokens_in f1 ≡ Name (codes "pipeline") ∷ [] → tokens_in f2 ≡ Number v ∷ [] → tokens_in ts ≡ Name (codes "pipeline") ∷ Number v ∷ tokens_in r2
+headed ts f1 r1 f2 r2 v first second word number = rw (first, tokens_in-append f1 r1, word, second, tokens_in-append f2 r2, number) refl
 
 all_spelled : (b : Bounds) (v : ℕ) (all more : List Declaration) (ks : List Token) → all ≡ more → DeclareAll b.lim b.depth v more ks → DeclareAll b.lim b.depth v all ks
 all_spelled b v all more ks e h = rw e h
@@ -114,7 +114,7 @@ file_found b s ts p e =
       declarations = all.0.0;
       place = read.place;
       ended = read.stopped;
-      spelled = (number.2.0, kinds head.0.1, headed ts word.0 first.0.1 number.0 head.0.1 head.0.0 word.1 number.1 word.2 number.2.1, all_spelled b head.0.0 all.0.0 read.more (kinds head.0.1) read.is read.spelled);
+      spelled = (number.2.0, tokens_in head.0.1, headed ts word.0 first.0.1 number.0 head.0.1 head.0.0 word.1 number.1 word.2 number.2.1, all_spelled b head.0.0 all.0.0 read.more (tokens_in head.0.1) read.is read.spelled);
       is = sym (ok_is (program_of head.0.0 all.0.0) p all.2);
       sound = read.sound (sound_none b);
     }
@@ -145,11 +145,11 @@ read_stands bytes p e =
 
 -- ---- what stands there is read
 
-pub file_read : (lim : Limits) (depth : ℕ) (b : Bounds) (v : ℕ) (ds : List Declaration) (place : ℕ) (ts : List Placed) → Under lim b.lim → depth ≤ b.depth → FileSpells lim depth v ds (kinds ts) → Sound b ds → program_at b (stop.End place) ts ≡ Ok (program_of v ds)
+pub file_read : (lim : Limits) (depth : ℕ) (b : Bounds) (v : ℕ) (ds : List Declaration) (place : ℕ) (ts : List Placed) → Under lim b.lim → depth ≤ b.depth → FileSpells lim depth v ds (tokens_in ts) → Sound b ds → program_at b (stop.End place) ts ≡ Ok (program_of v ds)
 unfolding program_at all_at
 file_read lim depth b v ds place ts u deep (is, more, parts, spelled) sound =
-    let one = split_kinds ts (Name (codes "pipeline") ∷ []) (Number v ∷ more) parts in
-    let two = split_kinds one.1 (Number v ∷ []) more one.4 in
+    let one = split_tokens_in ts (Name (codes "pipeline") ∷ []) (Number v ∷ more) parts in
+    let two = split_tokens_in one.1 (Number v ∷ []) more one.4 in
     let word = (reads_keyword (codes "pipeline") refl).reads (stop.End place) one.0 (two.0 ++ two.1) one.3 tt in
     let number = (reads_version v is).reads (stop.End place) two.0 two.1 two.3 tt in
     rw (one.2, two.2, word, number, all_declared lim depth b v ds u deep [] (length two.1) place two.1 (rw two.4 spelled) (omega arith) sound) refl

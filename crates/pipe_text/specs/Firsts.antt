@@ -7,7 +7,7 @@ use Rattle.value_core.specs.declared.lexing.Placed.{Placed}
 use Rattle.value_core.specs.declared.lexing.Stop.{Stop}
 use Rattle.value_core.specs.declared.lexing.Stop.TheVariants as stop
 use Rattle.value_core.specs.Lexing.{lexed}
-use Rattle.value_core.specs.Literals.{kinds}
+use Rattle.value_core.specs.Literals.{tokens_in}
 use Rattle.pipe_text.specs.declared.declaration.Declaration.{Declaration}
 use Rattle.pipe_text.specs.declared.fault.Fault.{Fault}
 use Rattle.pipe_text.specs.declared.fault.Fault.TheVariants.{Lex, Syntax, Limit, Duplicate}
@@ -88,7 +88,7 @@ RightAtStop (stop.End p) ks = Begins IsFile ks × ((f : File) → IsFile f ks �
 
 -- the fault of these tokens is what it says
 abbrev pub IsRight : Bounds → Stop → List Placed → Fault → Type 0
-IsRight b s ts f = ((f ≡ fault_of s) × RightAtStop s (kinds ts)) ⊎ ((front : List Placed) × (t : Placed) × (after : List Placed) × (ts ≡ front ++ t ∷ after) × RightAt b (kinds front) t f)
+IsRight b s ts f = ((f ≡ fault_of s) × RightAtStop s (tokens_in ts)) ⊎ ((front : List Placed) × (t : Placed) × (after : List Placed) × (ts ≡ front ++ t ∷ after) × RightAt b (tokens_in front) t f)
 
 -- The fault of a file's bytes is what it says: they are too many, or it is that of their tokens.
 abbrev pub IsRightFault : List ℕ → Fault → Type 0
@@ -101,7 +101,7 @@ Again ds w ks k n = ((ks ≡ []) × (k ≡ Name n) × (list_any (has_name w n) d
 -- The token at the place p gives the name n again: the tokens before are a file whose declarations have it, and the word of one more.
 abbrev pub IsNamedAgain : List Placed → List ℕ → ℕ → Type 0
 IsNamedAgain ts n p = (front : List Placed) × (t : Placed) × (after : List Placed) × (ts ≡ front ++ t ∷ after) × (p ≡ t.place) × (version : ℕ) × (ds : List Declaration) × (w : DeclWord) × (k1 k2 : List Token)
-    × (kinds front ≡ k1 ++ Name (decl_letters w) ∷ k2) × FileSpells file_limits 64 version ds k1 × Again ds w k2 t.token n
+    × (tokens_in front ≡ k1 ++ Name (decl_letters w) ∷ k2) × FileSpells file_limits 64 version ds k1 × Again ds w k2 t.token n
 
 -- what the caller is told is what it says, unless memory ran out
 abbrev pub IsRightAnswer : List ℕ → ReadFault → Type 0

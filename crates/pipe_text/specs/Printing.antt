@@ -187,7 +187,7 @@ op_tokens d = kind_tokens d ++ (where_tokens d ++ (manner_tokens d ++ (keeping_t
 abbrev pub node_tokens : NodeDecl → List Token
 node_tokens d = Name (codes "node") ∷ Name d.name ∷ term_tokens d.term
 
--- the lines of a program: its version, and its declarations by their kinds, in list order
+-- the lines of a program: its version, and its declarations by their tokens_in, in list order
 abbrev pub lines_of : Program → List (List Token)
 lines_of p =
     (Name (codes "pipeline") ∷ Number p.version ∷ []) ∷

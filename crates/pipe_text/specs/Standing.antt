@@ -4,7 +4,7 @@ use Rattle.std.specs.List.{IsDistinct}
 use Rattle.std.specs.Str.{bytes_eq}
 use Rattle.value_core.specs.declared.lexing.Stop.TheVariants as stop
 use Rattle.value_core.specs.Lexing.{lexed}
-use Rattle.value_core.specs.Literals.{kinds}
+use Rattle.value_core.specs.Literals.{tokens_in}
 use Rattle.op_keys.specs.declared.declarations.ClientDecl.{ClientDecl}
 use Rattle.op_keys.specs.declared.declarations.OpDecl.{OpDecl}
 use Rattle.op_keys.specs.declared.declarations.PoolDecl.{PoolDecl}
@@ -135,7 +135,7 @@ pub record IsSpelled (bytes : List ℕ) (p : Program) : Type 0 where
   pub version : ℕ
   pub declarations : List Declaration
   pub ended : (lexed bytes).stop ≡ stop.End (length bytes)
-  pub spelled : FileSpells file_limits 64 version declarations (kinds (lexed bytes).tokens)
+  pub spelled : FileSpells file_limits 64 version declarations (tokens_in (lexed bytes).tokens)
   pub is : p ≡ program_of version declarations
   pub few : (w : DeclWord) → count_of w declarations ≤ number_of (limit_of w)
   pub few_terms : all_terms declarations ≤ 4096

@@ -96,7 +96,7 @@ fun_letters fun.Second = codes "second"
 fun_letters fun.Describe = codes "describe"
 fun_letters fun.Must = codes "must"
 
--- the kinds that a failure may be of
+-- the tokens_in that a failure may be of
 abbrev pub kind_letters : FailKind → List ℕ
 kind_letters kind.Text = codes "text"
 kind_letters kind.Num = codes "num"
@@ -140,7 +140,7 @@ all_bodies = word.Return ∷ word.Fail ∷ word.Input ∷ word.Node ∷ word.Var
 abbrev pub all_funs : List Fun
 all_funs = fun.Trim ∷ fun.Lines ∷ fun.Words ∷ fun.Join ∷ fun.Concat ∷ fun.Length ∷ fun.Count ∷ fun.Number ∷ fun.Show ∷ fun.Add ∷ fun.Equal ∷ fun.AtMost ∷ fun.First ∷ fun.Second ∷ fun.Describe ∷ fun.Must ∷ []
 
--- all kinds of a failure
+-- all tokens_in of a failure
 abbrev pub all_kinds : List FailKind
 all_kinds = kind.Text ∷ kind.Num ∷ kind.Unit ∷ kind.List ∷ []
 

@@ -16,7 +16,7 @@ use Rattle.op_keys.specs.Levels.{rank}
 use Rattle.op_keys.specs.declared.declarations.OpDecl.{OpDecl}
 use Rattle.op_keys.specs.declared.level.Level.{Level}
 use Rattle.term_core.specs.Limits.{parts_of}
-use Rattle.op_keys.specs.Names.{place_named}
+use Rattle.op_keys.specs.Names.{index_named}
 use Rattle.term_core.specs.Soundness.{NamedKind, Typing, IsSound, bind_kind, build_kind, input_kind, is_op, item_kind, kinds_from, layer_kind, literal_kind, node_kinds, output_kind, small, term_kind, unit_of_units, wanted_kind}
 use Rattle.term_core.specs.declared.program.InputDecl.{InputDecl}
 use Rattle.term_core.specs.declared.program.NodeDecl.{NodeDecl}
@@ -36,10 +36,10 @@ bytes_same m n e = (bytes_eq-Decides m n).0 e
 abbrev pub has_name : List (List ℕ) → List ℕ → Bool
 has_name ms n = list_any (λ m. bytes_eq m n) ms
 
-pub place_past : (at : ℕ) (ms : List (List ℕ)) (n : List ℕ) → has_name ms n ≡ false → place_named at ms n ≡ at + length ms
+pub place_past : (at : ℕ) (ms : List (List ℕ)) (n : List ℕ) → has_name ms n ≡ false → index_named at ms n ≡ at + length ms
 place_past at [] n e = omega arith
 place_past at (m ∷ ms) n e =
-    elim (bytes_eq m n) as (λ b. (b || has_name ms n) ≡ false → cond b at (place_named (at + 1) ms n) ≡ at + length (m ∷ ms))
+    elim (bytes_eq m n) as (λ b. (b || has_name ms n) ≡ false → cond b at (index_named (at + 1) ms n) ≡ at + length (m ∷ ms))
     [ true ↦ λ no. absurd cc | false ↦ λ no. let h = place_past (at + 1) ms n no in omega (arith, h) ] e
 
 -- ---- the numbers that are listed
@@ -49,35 +49,35 @@ later true at n ns h = or_right (at == n) (list_any (λ m. m == n) ns) h
 later false at n ns h = h
 
 listed_by : {D : Type 0} (name : D → List ℕ) (used : List ℕ → Bool) (at : ℕ) (ds : List D) (n : List ℕ) → used n ≡ true → has_name (map name ds) n ≡ true →
-    list_any (λ m. m == place_named at (map name ds) n) (numbers_where (λ d. used (name d)) at ds) ≡ true
+    list_any (λ m. m == index_named at (map name ds) n) (numbers_where (λ d. used (name d)) at ds) ≡ true
 listed_by name used at [] n is has = absurd cc
 listed_by name used at (d ∷ ds) n is has =
     elim (bytes_eq (name d) n) as (λ b. bytes_eq (name d) n ≡ b → (b || has_name (map name ds) n) ≡ true →
-    list_any (λ m. m == cond b at (place_named (at + 1) (map name ds) n)) (cond (used (name d)) (at ∷ numbers_where (λ d. used (name d)) (at + 1) ds) (numbers_where (λ d. used (name d)) (at + 1) ds)) ≡ true) [
+    list_any (λ m. m == cond b at (index_named (at + 1) (map name ds) n)) (cond (used (name d)) (at ∷ numbers_where (λ d. used (name d)) (at + 1) ds) (numbers_where (λ d. used (name d)) (at + 1) ds)) ≡ true) [
       | true ↦ λ same has.
           let is_used : used (name d) ≡ true = ap used (bytes_same (name d) n same) ∙ is in
           ap (λ (u : Bool). list_any (λ m. m == at) (cond u (at ∷ numbers_where (λ d. used (name d)) (at + 1) ds) (numbers_where (λ d. used (name d)) (at + 1) ds))) is_used
           ∙ or_left (at == at) (list_any (λ m. m == at) (numbers_where (λ d. used (name d)) (at + 1) ds)) (eq-eqb at at refl)
       | false ↦ λ other has.
-          later (used (name d)) at (place_named (at + 1) (map name ds) n) (numbers_where (λ d. used (name d)) (at + 1) ds) (listed_by name used (at + 1) ds n is has)
+          later (used (name d)) at (index_named (at + 1) (map name ds) n) (numbers_where (λ d. used (name d)) (at + 1) ds) (listed_by name used (at + 1) ds n is has)
     ] refl has
 
 -- ---- the operation at the place of a name
 
-place_least : (at : ℕ) (ms : List (List ℕ)) (n : List ℕ) → at ≤ place_named at ms n
+place_least : (at : ℕ) (ms : List (List ℕ)) (n : List ℕ) → at ≤ index_named at ms n
 place_least at [] n = omega arith
 place_least at (m ∷ ms) n =
-    elim (bytes_eq m n) as (λ b. at ≤ cond b at (place_named (at + 1) ms n)) [ true ↦ omega arith | false ↦ let h = place_least (at + 1) ms n in omega (arith, h) ]
+    elim (bytes_eq m n) as (λ b. at ≤ cond b at (index_named (at + 1) ms n)) [ true ↦ omega arith | false ↦ let h = place_least (at + 1) ms n in omega (arith, h) ]
 
-pub found_name : {D : Type 0} (name : D → List ℕ) (at : ℕ) (ds : List D) (n : List ℕ) (k : ℕ) (d : D) → place_named at (map name ds) n ≡ at + k → slice_get ds k ≡ Some d → bytes_eq (name d) n ≡ true
+pub found_name : {D : Type 0} (name : D → List ℕ) (at : ℕ) (ds : List D) (n : List ℕ) (k : ℕ) (d : D) → index_named at (map name ds) n ≡ at + k → slice_get ds k ≡ Some d → bytes_eq (name d) n ≡ true
 found_name name at [] n k d is e = absurd cc
 found_name name at (x ∷ ds) n zero d is e =
-    elim (bytes_eq (name x) n) as (λ b. bytes_eq (name x) n ≡ b → cond b at (place_named (at + 1) (map name ds) n) ≡ at + 0 → bytes_eq (name d) n ≡ true) [
+    elim (bytes_eq (name x) n) as (λ b. bytes_eq (name x) n ≡ b → cond b at (index_named (at + 1) (map name ds) n) ≡ at + 0 → bytes_eq (name d) n ≡ true) [
       | true ↦ λ same is. let one : x ≡ d = cc in ap (λ y. bytes_eq (name y) n) (sym one) ∙ same
       | false ↦ λ other is. let h = place_least (at + 1) (map name ds) n in absurd (omega (arith, h, is))
     ] refl is
 found_name name at (x ∷ ds) n (suc k) d is e =
-    elim (bytes_eq (name x) n) as (λ b. cond b at (place_named (at + 1) (map name ds) n) ≡ at + suc k → bytes_eq (name d) n ≡ true) [
+    elim (bytes_eq (name x) n) as (λ b. cond b at (index_named (at + 1) (map name ds) n) ≡ at + suc k → bytes_eq (name d) n ≡ true) [
       | true ↦ λ is. absurd (omega (arith, is))
       | false ↦ λ is. found_name name (at + 1) ds n k d (omega (arith, is)) e
     ] is
@@ -266,23 +266,23 @@ input_there p n e =
       | false ↦ λ is.
           let far = place_past 0 (map (λ d. d.name) p.inputs) n is in
           let same = length-map p.inputs (λ (d : InputDecl). d.name) in
-          let gone : slice_get p.inputs (place_named 0 (map (λ d. d.name) p.inputs) n) ≡ None = slice_get_past p.inputs _ (omega (arith, far, same)) in
+          let gone : slice_get p.inputs (index_named 0 (map (λ d. d.name) p.inputs) n) ≡ None = slice_get_past p.inputs _ (omega (arith, far, same)) in
           let none : is_some (input_kind p n) ≡ false = ap (λ (o : Option InputDecl). is_some (option_map (λ d. literal_kind d.value) o)) gone in
           let no : true ≡ false = sym e ∙ none in cc
     ] refl
 
-pub input_listed : (p : Program) → IsSound p → (n : List ℕ) → in_some_node (names_here role.Input n) p ≡ true → Lists (report_of p).inputs (place_named 0 (map (λ d. d.name) p.inputs) n)
+pub input_listed : (p : Program) → IsSound p → (n : List ℕ) → in_some_node (names_here role.Input n) p ≡ true → Lists (report_of p).inputs (index_named 0 (map (λ d. d.name) p.inputs) n)
 unfolding report_of node_kinds
 input_listed p sound n u =
     listed_by (λ (d : InputDecl). d.name) (λ m. in_some_node (names_here role.Input m) p) 0 p.inputs n u (input_there p n (nodes_declared p role.Input n p.nodes [] sound.kinds u))
 
-pub op_listed : (p : Program) → IsSound p → (n : List ℕ) → in_some_node (names_here role.Op n) p ≡ true → Lists (report_of p).ops (place_named 0 (map (λ d. d.name) p.ops) n)
+pub op_listed : (p : Program) → IsSound p → (n : List ℕ) → in_some_node (names_here role.Op n) p ≡ true → Lists (report_of p).ops (index_named 0 (map (λ d. d.name) p.ops) n)
 unfolding report_of node_kinds
 op_listed p sound n u =
     listed_by (λ (d : OpDecl). d.name) (λ m. in_some_node (names_here role.Op m) p) 0 p.ops n u (nodes_declared p role.Op n p.nodes [] sound.kinds u)
 
-pub level_reported : (p : Program) (n : List ℕ) (d : OpDecl) → in_some_node (names_here role.Op n) p ≡ true → slice_get p.ops (place_named 0 (map (λ d. d.name) p.ops) n) ≡ Some d → IsAtMost (report_of p).level d.level
+pub level_reported : (p : Program) (n : List ℕ) (d : OpDecl) → in_some_node (names_here role.Op n) p ≡ true → slice_get p.ops (index_named 0 (map (λ d. d.name) p.ops) n) ≡ Some d → IsAtMost (report_of p).level d.level
 unfolding report_of
 level_reported p n d u e =
-    let same : d.name ≡ n = bytes_same d.name n (found_name (λ (d : OpDecl). d.name) 0 p.ops n (place_named 0 (map (λ d. d.name) p.ops) n) d (omega arith) e) in
-    greatest_of_used (is_used_op p) None p.ops (place_named 0 (map (λ d. d.name) p.ops) n) d e (ap (λ (m : List ℕ). in_some_node (names_here role.Op m) p) same ∙ u)
+    let same : d.name ≡ n = bytes_same d.name n (found_name (λ (d : OpDecl). d.name) 0 p.ops n (index_named 0 (map (λ d. d.name) p.ops) n) d (omega arith) e) in
+    greatest_of_used (is_used_op p) None p.ops (index_named 0 (map (λ d. d.name) p.ops) n) d e (ap (λ (m : List ℕ). in_some_node (names_here role.Op m) p) same ∙ u)

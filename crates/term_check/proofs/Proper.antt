@@ -30,7 +30,7 @@ use Rattle.value_core.proofs.Sames.{same_true}
 use Rattle.term_core.specs.Evaluation.{Bound, Given, given_of, Meaning, bind, fits, innermost, triple_of, entry_state, state_or_unit, value_or_unit, wanted, looked_up, map_run, pair_run, bind_run, items_run, list_run, outcome_run, gate_run, all_run, build_run, output_run, term_step, eval}
 use Rattle.term_core.specs.Fresh.{fresh, fresh_from}
 use Rattle.term_core.specs.Limits.{IsNodeWithin, has_good_words, is_literal, is_literal_layer, is_name, is_text_layer, words_step}
-use Rattle.op_keys.specs.Names.{place_named}
+use Rattle.op_keys.specs.Names.{index_named}
 use Rattle.term_core.specs.Runs.{Run, stated, follow, follow_both, together}
 use Rattle.term_core.specs.Soundness.{NamedKind, Typing, bind_kind, build_kind, innermost_kind, is_op, item_kind, item_layer_kind, kind_parts, kinds_from, layer_kind, literal_kind, literal_layer_kind, node_kinds, output_kind, small, term_kind, unit_of_units, wanted_kind}
 use Rattle.term_core.specs.States.{applied_state, both, caught, first_active, first_failed, gated, limited, listed, mapped, observed, or_else, paired, passed, values_in, weight_limit}
@@ -484,8 +484,8 @@ module _ (p : Program) (node : ℕ) (inputs : List Value) (states : List State) 
       IsProperState k (term_step given (map-Term Term Meaning (eval given) (map-Term E Term of y)) bs).state
   layer_proper of has (Term-F.Return v) gs k bs e good h = to_kind (Fine v) (let is : literal_kind v ≡ k = cc in is) (literal_proper v good)
   layer_proper of has (Term-F.Fail f m) gs k bs e good h = leb-true (length m) 65536 good
-  layer_proper of has (Term-F.Input n) gs k bs e good h = input_at p.inputs inputs (place_named 0 (map (λ d. d.name) p.inputs) n) k inputs_are e
-  layer_proper of has (Term-F.Node n) gs k bs e good h = state_at earlier states (place_named 0 (map (λ d. d.name) p.nodes) n) k states_are e
+  layer_proper of has (Term-F.Input n) gs k bs e good h = input_at p.inputs inputs (index_named 0 (map (λ d. d.name) p.inputs) n) k inputs_are e
+  layer_proper of has (Term-F.Node n) gs k bs e good h = state_at earlier states (index_named 0 (map (λ d. d.name) p.nodes) n) k states_are e
   layer_proper of has (Term-F.Var n) gs k bs e good h = innermost_proper None value.Unit gs bs n k (λ j is. absurd cc) h e
   layer_proper of has (Term-F.Map f t) gs k bs e good h =
       let o = behind (term_kind p earlier (of t) gs) (kind_given f) k e in

@@ -9,7 +9,7 @@ use Rattle.value_core.specs.declared.value.Value.{Value}
 use Rattle.op_keys.specs.declared.declarations.OpDecl.{OpDecl}
 use Rattle.term_core.specs.Evaluation.{given_of, input_named, eval, Meaning, value_or_unit}
 use Rattle.term_core.specs.Fresh.{FreshRun, run_before, fresh_from, fresh}
-use Rattle.op_keys.specs.Names.{place_named}
+use Rattle.op_keys.specs.Names.{index_named}
 use Rattle.term_core.specs.Runs.{Run}
 use Rattle.term_core.specs.World.{World, entry_of}
 use Rattle.term_core.specs.declared.program.NodeDecl.{NodeDecl}
@@ -39,7 +39,7 @@ fresh_inputs p inputs others w at earlier (d ∷ ds) q =
     ∙ ap (λ (x : Run). run_before x (fresh_from p others w (at + 1) (earlier ++ x.state ∷ []) ds)) e
 
 fresh_wants : (p : Program) (inputs : List Value) (w : World) (Q : ℕ → Type 0) (at : ℕ) (earlier : List State) (ds : List NodeDecl) →
-    ((n : List ℕ) → list_any (λ d. names_in role.Op n d.term) ds ≡ true → Q (place_named 0 (map (λ d. d.name) p.ops) n)) →
+    ((n : List ℕ) → list_any (λ d. names_in role.Op n d.term) ds ≡ true → Q (index_named 0 (map (λ d. d.name) p.ops) n)) →
     AllByRecursion (λ (t : Triple). Q t.op) (fresh_from p inputs w at earlier ds).wants
 fresh_wants p inputs w Q at earlier [] q = tt
 fresh_wants p inputs w Q at earlier (d ∷ ds) q =
@@ -51,7 +51,7 @@ fresh_wants p inputs w Q at earlier (d ∷ ds) q =
 pub reads_only_reported : ReadsOnlyReported
 unfolding fresh
 reads_only_reported p inputs others w v sound same entries =
-    fresh_inputs p inputs others w 0 [] p.nodes (λ n u. ap value_or_unit (same (place_named 0 (map (λ d. d.name) p.inputs) n) (input_listed p sound n u)))
+    fresh_inputs p inputs others w 0 [] p.nodes (λ n u. ap value_or_unit (same (index_named 0 (map (λ d. d.name) p.inputs) n) (input_listed p sound n u)))
     ∙ fresh_local p others w v (all_turned (λ (t : Triple). Lists (report_of p).ops t.op) (λ t. entry_of w t ≡ entry_of v t) (fresh_from p others w 0 [] p.nodes).wants entries
     (fresh_wants p others w (Lists (report_of p).ops) 0 [] p.nodes (λ n u. op_listed p sound n u)))
 

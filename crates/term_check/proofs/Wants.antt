@@ -13,7 +13,7 @@ use Rattle.value_core.specs.declared.state.Triple.{Triple}
 use Rattle.value_core.specs.declared.value.Value.{Value}
 use Rattle.value_core.specs.declared.value.Value.TheVariants as value
 use Rattle.term_core.specs.Evaluation.{Bound, Given, Meaning, bind, fits, triple_of, wanted, looked_up, map_run, pair_run, bind_run, items_run, list_run, outcome_run, gate_run, all_run, build_run, output_run, term_step, eval}
-use Rattle.op_keys.specs.Names.{place_named}
+use Rattle.op_keys.specs.Names.{index_named}
 use Rattle.term_core.specs.Runs.{Run, stated, after, follow, follow_both, then_do, then_both}
 use Rattle.term_core.specs.States.{listed, passed, caught, observed, gated}
 use Rattle.term_core.specs.declared.program.Term.{Term, Term-F, roll-Term, map-Term, fold-roll-Term, ind-Term}
@@ -64,7 +64,7 @@ module _ (given : Given) (Q : ℕ → Type 0) where
 
   -- where an operation that a term names is such an operation
   abbrev IsOf : Term → Type 0
-  IsOf t = ((n : List ℕ) → names_in role.Op n t ≡ true → Q (place_named 0 (map (λ d. d.name) given.program.ops) n)) → (bound : Bound) → AreOf (eval given t bound)
+  IsOf t = ((n : List ℕ) → names_in role.Op n t ≡ true → Q (index_named 0 (map (λ d. d.name) given.program.ops) n)) → (bound : Bound) → AreOf (eval given t bound)
 
   map_of : (f : Fun) (t : Meaning) (bound : Bound) → AreOf (t bound) → AreOf (map_run given f t bound)
   unfolding map_run
@@ -90,17 +90,17 @@ module _ (given : Given) (Q : ℕ → Type 0) where
   unfolding list_run items_run
   list_of made n a b bound h g = then_of (a bound) (λ v. items_run made n (items_in v) b bound) h (λ v. runs_of (λ x. b (bind bound n x)) (items_in v) (λ x. g (bind bound n x)))
 
-  build_of : (op : List ℕ) (k : Meaning) (bound : Bound) → AreOf (k bound) → Q (place_named 0 (map (λ d. d.name) given.program.ops) op) → AreOf (build_run given op k bound)
+  build_of : (op : List ℕ) (k : Meaning) (bound : Bound) → AreOf (k bound) → Q (index_named 0 (map (λ d. d.name) given.program.ops) op) → AreOf (build_run given op k bound)
   unfolding build_run
   build_of op k bound h q = then_of (k bound) (λ v. looked_up given value.Words (triple_of given op (text_in v) [])) h (λ v. looked_up_of value.Words (triple_of given op (text_in v) []) q)
 
-  output_of : (op : List ℕ) (a b : Meaning) (bound : Bound) → AreOf (a bound) → AreOf (b bound) → Q (place_named 0 (map (λ d. d.name) given.program.ops) op) → AreOf (output_run given op a b bound)
+  output_of : (op : List ℕ) (a b : Meaning) (bound : Bound) → AreOf (a bound) → AreOf (b bound) → Q (index_named 0 (map (λ d. d.name) given.program.ops) op) → AreOf (output_run given op a b bound)
   unfolding output_run
   output_of op a b bound h g q =
       then_both_of (a bound) (b bound) (λ v w. looked_up given (λ t. value.Unit) (triple_of given op (text_in v) (text_in w))) h g (λ v w. looked_up_of (λ t. value.Unit) (triple_of given op (text_in v) (text_in w)) q)
 
   abbrev AllNamed : Bool → List ℕ → Type 0
-  AllNamed b n = b ≡ true → Q (place_named 0 (map (λ d. d.name) given.program.ops) n)
+  AllNamed b n = b ≡ true → Q (index_named 0 (map (λ d. d.name) given.program.ops) n)
 
   all_of : {E : Type 0} (of : E → Term) → ((e : E) → IsOf (of e)) → (ts : List E) → ((n : List ℕ) → AllNamed (list_any (λ b. b) (map (names_in role.Op n) (map of ts))) n) → (bound : Bound) →
       AllByRecursion (λ (t : Triple). Q t.op) (flat_map (λ r. r.wants) (map (λ m. m bound) (map (eval given) (map of ts))))

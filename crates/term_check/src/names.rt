@@ -11,7 +11,7 @@ use crate::fault::CheckWhat;
 use op_keys::OpDecl;
 use sqlite_items::Boxed;
 use std::alloc::Global;
-use term_core::{FailKind, NodeDecl, Program, Term, place_of};
+use term_core::{FailKind, NodeDecl, Program, Term, index_of};
 use value_core::{Kind, NoMemory, Text, Value};
 
 /// What a term is checked against: its program, and the kinds of the nodes above its own.
@@ -54,7 +54,7 @@ pub(crate) fn input_kind(
     ensures { IfOk result (λ k. k ≡ input_kind program.now name.now) }
 {
     let inputs = program.inputs.as_slice();
-    match inputs.get(place_of(inputs, name)) {
+    match inputs.get(index_of(inputs, name)) {
         Some(decl) => Ok(Some(literal_kind(alloc, &decl.value)?)),
         None => Ok(None),
     }
@@ -65,7 +65,7 @@ pub(crate) fn node_kind<'a>(against: &Against<'a>, name: &Text) -> Option<&'a Ki
     ensures { option_copied result ≡ node_kind against.now.program.now against.now.earlier.now name.now }
 {
     let nodes = against.program.nodes.as_slice();
-    against.earlier.get(place_of(nodes, name))
+    against.earlier.get(index_of(nodes, name))
 }
 
 /// The kind that was bound to the name last.

@@ -16,7 +16,7 @@ use Rattle.term_core.specs.declared.program.NodeDecl.{NodeDecl}
 use Rattle.term_core.specs.declared.reading.Binding.{Binding}
 use Rattle.term_core.specs.declared.entries.Entry.{Entry}
 use Rattle.term_core.specs.declared.entries.Entry.TheVariants as entry
-use Rattle.op_keys.specs.Names.{place_named}
+use Rattle.op_keys.specs.Names.{index_named}
 use Rattle.term_core.specs.States.{listed, passed, paired, mapped, caught, observed, gated}
 use Rattle.term_core.specs.Runs.{Run, stated, visited, turned, after, then_do, then_both, together}
 use Rattle.value_core.specs.Parts.{text_in, items_in}
@@ -46,11 +46,11 @@ state_or_unit None = Fine value.Unit
 
 -- the value of the input of this name; a name that isn't declared stands for unit
 abbrev pub input_named : List InputDecl → List Value → List ℕ → Value
-input_named decls values n = value_or_unit (slice_get values (place_named 0 (map (λ d. d.name) decls) n))
+input_named decls values n = value_or_unit (slice_get values (index_named 0 (map (λ d. d.name) decls) n))
 
 -- the state of the earlier node of this name; any other name stands for unit
 abbrev pub node_named : List NodeDecl → List State → List ℕ → State
-node_named decls states n = state_or_unit (slice_get states (place_named 0 (map (λ d. d.name) decls) n))
+node_named decls states n = state_or_unit (slice_get states (index_named 0 (map (λ d. d.name) decls) n))
 
 -- the value bound last to this name, among those bound in order, or the one that was found before
 abbrev pub innermost : Value → List Binding → List ℕ → Value
@@ -63,7 +63,7 @@ bind bound name v = bound ++ record { name = name; value = v } ∷ []
 
 -- the triple of a key and a value for the operation of this name
 abbrev pub triple_of : Given → List ℕ → List ℕ → List ℕ → Triple
-triple_of given op key v = record { op = place_named 0 (map (λ d. d.name) given.program.ops) op; key = key; value = v }
+triple_of given op key v = record { op = index_named 0 (map (λ d. d.name) given.program.ops) op; key = key; value = v }
 
 -- whether each word of the operation's order is short enough; what isn't declared has no words
 abbrev pub fits : Option OpDecl → Triple → Bool

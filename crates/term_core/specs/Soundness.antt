@@ -11,7 +11,7 @@ use Rattle.value_core.specs.declared.value.Kind.TheVariants as kind
 use Rattle.value_core.specs.declared.value.Outcome.{Outcome}
 use Rattle.value_core.specs.declared.value.Value.{Value, Value-F, out-Value}
 use Rattle.term_core.specs.Limits.{IsWithinLimits, parts_of}
-use Rattle.op_keys.specs.Names.{place_named}
+use Rattle.op_keys.specs.Names.{index_named}
 use Rattle.term_core.specs.declared.program.FailKind.{FailKind}
 use Rattle.term_core.specs.declared.program.FailKind.TheVariants as fails
 use Rattle.term_core.specs.declared.program.NodeDecl.{NodeDecl}
@@ -77,11 +77,11 @@ innermost_kind found (b ∷ bs) n = innermost_kind (if bytes_eq b.0 n then Some 
 
 -- the kind of the input of this name
 abbrev pub input_kind : Program → List ℕ → Option Kind
-input_kind p n = option_map (λ d. literal_kind d.value) (slice_get p.inputs (place_named 0 (map (λ d. d.name) p.inputs) n))
+input_kind p n = option_map (λ d. literal_kind d.value) (slice_get p.inputs (index_named 0 (map (λ d. d.name) p.inputs) n))
 
 -- the kind of the node of this name, where it is among the earlier ones
 abbrev pub node_kind : Program → List Kind → List ℕ → Option Kind
-node_kind p earlier n = slice_get earlier (place_named 0 (map (λ d. d.name) p.nodes) n)
+node_kind p earlier n = slice_get earlier (index_named 0 (map (λ d. d.name) p.nodes) n)
 
 -- whether the operation of this name is declared, and is an output as told
 abbrev pub is_op : Program → List ℕ → Bool → Bool

@@ -22,5 +22,5 @@ mod tests;
 pub use entries::{Entries, Entry};
 pub use fresh::{Evaluated, Fresh, eval_node, fresh_states};
 pub use laws::{fresh_is_local, node_is_local};
-pub use names::{Named, place_of};
+pub use names::{Named, index_of};
 pub use program::{FailKind, InputDecl, NodeDecl, Program, Term};

@@ -7,7 +7,7 @@ ghost use Rattle.term_core.specs.declared.lookup.Meant.TheVariants as meanings;
 ghost use Rattle.term_core.specs.Views.{given_in, meant_by};
 
 use crate::entries::{Entries, Entry};
-use crate::names::place_of;
+use crate::names::index_of;
 use crate::program::Program;
 use crate::reading::text_of;
 use op_keys::{OpDecl, order_fits};
@@ -102,7 +102,7 @@ pub(crate) fn look_up_build<E: Entries>(
 {
     match key {
         State::Fine(key) => {
-            let op = place_of(given.program.ops.as_slice(), op) as u32;
+            let op = index_of(given.program.ops.as_slice(), op) as u32;
             let key = text_of(alloc, key);
             let value = Text::new(alloc);
             look_up(alloc, given, Meant::Text, Triple { op, key, value }, wants)
@@ -130,7 +130,7 @@ pub(crate) fn look_up_output<E: Entries>(
     match key {
         State::Fine(key) => match value {
             State::Fine(value) => {
-                let op = place_of(given.program.ops.as_slice(), op) as u32;
+                let op = index_of(given.program.ops.as_slice(), op) as u32;
                 let key = text_of(alloc, key);
                 let value = text_of(alloc, value);
                 look_up(alloc, given, Meant::Unit, Triple { op, key, value }, wants)

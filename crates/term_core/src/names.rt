@@ -1,6 +1,6 @@
 //! Declarations by their names.
 ghost use Rattle.std.specs.Prelude.{◌≡◌, ℕ, ◌≤◌, map, length, List};
-ghost use Rattle.op_keys.specs.Names.{place_named};
+ghost use Rattle.op_keys.specs.Names.{index_named};
 
 use crate::program::{InputDecl, NodeDecl};
 use op_keys::{OpDecl, PoolDecl, WorkerDecl};
@@ -56,8 +56,8 @@ impl Named for WorkerDecl {
 }
 
 /// The place of the first declaration of this name, or how many there are where none has it.
-pub fn place_of<D: Named>(decls: &[D], name: &Text) -> usize
-    ensures place { result ≡ place_named 0 (map D.named decls.now) name.now }
+pub fn index_of<D: Named>(decls: &[D], name: &Text) -> usize
+    ensures place { result ≡ index_named 0 (map D.named decls.now) name.now }
     ensures within { result ≤ length decls.now }
 {
     for (i, decl) in decls.iter().enumerate() {

@@ -4,7 +4,7 @@ ghost use Rattle.value_core.specs.declared.value.Value.TheVariants as value;
 ghost use Rattle.term_core.specs.Evaluation.{innermost, input_named, node_named};
 ghost use Rattle.value_core.specs.Parts.{items_in, text_in};
 
-use crate::names::place_of;
+use crate::names::index_of;
 use crate::program::{InputDecl, NodeDecl};
 use std::alloc::Global;
 use value_core::{ListOf, NoMemory, State, Text, Value};
@@ -25,7 +25,7 @@ pub(crate) fn input_of(
 ) -> Result<Value, NoMemory>
     ensures { IfOk result (λ v. v ≡ input_named decls.now values.now name.now) }
 {
-    let place = place_of(decls, name);
+    let place = index_of(decls, name);
     if place < values.len() {
         values[place].copy(alloc)
     } else {
@@ -42,7 +42,7 @@ pub(crate) fn node_of(
 ) -> Result<State, NoMemory>
     ensures { IfOk result (λ s. s ≡ node_named decls.now states.now name.now) }
 {
-    let place = place_of(decls, name);
+    let place = index_of(decls, name);
     if place < states.len() {
         states[place].copy(alloc)
     } else {

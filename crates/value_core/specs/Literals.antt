@@ -14,8 +14,8 @@ use Rattle.value_core.specs.Parts.{text_values}
 use Rattle.value_core.specs.Values.{weight_of}
 
 -- the tokens, without their places
-abbrev pub kinds : List Placed → List Token
-kinds = map (λ p. p.token)
+abbrev pub tokens_in : List Placed → List Token
+tokens_in = map (λ p. p.token)
 
 -- one text more in front
 abbrev pub with_text : List ℕ → Option (List (List ℕ)) → Option (List (List ℕ))
@@ -81,7 +81,7 @@ ended_literal (stop.End p) ks = light (literal_of ks)
 
 -- the value that the bytes spell
 abbrev pub literal_read : List ℕ → Option Value
-literal_read bytes = ended_literal (lexed bytes).stop (kinds (lexed bytes).tokens)
+literal_read bytes = ended_literal (lexed bytes).stop (tokens_in (lexed bytes).tokens)
 
 -- a fault says that there is no value, unless memory ran out
 abbrev pub FailsLiteral : LiteralFault → Option Value → Type 0

@@ -1,7 +1,7 @@
 //! Literals, read from their bytes.
 ghost use Rattle.std.specs.Prelude.{◌≡◌, IfOk};
 ghost use Rattle.std.specs.Option.{option_map};
-ghost use Rattle.value_core.specs.Literals.{GivesLiteral, is_mark_of, item_texts, kinds, list_literal, list_texts, literal_of, literal_read, single_literal};
+ghost use Rattle.value_core.specs.Literals.{GivesLiteral, is_mark_of, item_texts, tokens_in, list_literal, list_texts, literal_of, literal_read, single_literal};
 ghost use Rattle.value_core.specs.Parts.{text_values};
 
 use crate::NoMemory;
@@ -51,7 +51,7 @@ fn take_single(alloc: Global, token: &Token) -> Result<Option<Value>, NoMemory>
 
 /// The texts of strings with a comma between each two, up to a closing bracket at the end.
 fn take_items(alloc: Global, tokens: &[Placed]) -> Result<Option<ListOf<Value>>, NoMemory>
-    ensures { IfOk result (λ o. o ≡ option_map text_values (item_texts (kinds tokens.now))) }
+    ensures { IfOk result (λ o. o ≡ option_map text_values (item_texts (tokens_in tokens.now))) }
 {
     let mut items = ListOf::new(alloc);
     let mut rest = tokens;
@@ -73,7 +73,7 @@ fn take_items(alloc: Global, tokens: &[Placed]) -> Result<Option<ListOf<Value>>,
 
 /// The texts of a list behind its opening bracket.
 fn take_list_items(alloc: Global, tokens: &[Placed]) -> Result<Option<ListOf<Value>>, NoMemory>
-    ensures { IfOk result (λ o. o ≡ option_map text_values (list_texts (kinds tokens.now))) }
+    ensures { IfOk result (λ o. o ≡ option_map text_values (list_texts (tokens_in tokens.now))) }
 {
     match tokens {
         [] => Ok(None),
@@ -91,7 +91,7 @@ fn take_list_items(alloc: Global, tokens: &[Placed]) -> Result<Option<ListOf<Val
 
 /// The list behind its opening bracket.
 fn take_list(alloc: Global, tokens: &[Placed]) -> Result<Option<Value>, NoMemory>
-    ensures { IfOk result (λ o. o ≡ list_literal (list_texts (kinds tokens.now))) }
+    ensures { IfOk result (λ o. o ≡ list_literal (list_texts (tokens_in tokens.now))) }
 {
     match take_list_items(alloc, tokens)? {
         Some(items) => {
@@ -109,7 +109,7 @@ fn take_list(alloc: Global, tokens: &[Placed]) -> Result<Option<Value>, NoMemory
 /// The value that just these tokens spell: one string, one number, or one list of at most 256
 /// strings.
 pub fn literal_in(alloc: Global, tokens: &[Placed]) -> Result<Option<Value>, NoMemory>
-    ensures { IfOk result (λ o. o ≡ literal_of (kinds tokens.now)) }
+    ensures { IfOk result (λ o. o ≡ literal_of (tokens_in tokens.now)) }
 {
     match tokens {
         [] => Ok(None),

@@ -1,7 +1,7 @@
 //! Which job a worker takes next.
 ghost use Rattle.std.specs.Prelude.{◌≡◌, ◌+◌, ◌<◌, ℕ, map, length, nat_le, slice_index, slice_get};
 ghost use Rattle.fair_pool.specs.Fair.{allows, is_paused, is_full, takes_none, job_before, leaves};
-ghost use Rattle.fair_pool.specs.Kept.{allows_job, first_job, looked_for, place_of, queue_of};
+ghost use Rattle.fair_pool.specs.Kept.{allows_job, first_job, looked_for, rank_of, queue_of};
 ghost use Rattle.fair_pool.specs.Layouts.{hold_of, worker_pool};
 ghost use Rattle.fair_pool.specs.Order.{Rises};
 ghost use Rattle.fair_pool.specs.Pools.{pick_of, looked_of};
@@ -79,7 +79,7 @@ impl Pools {
     /// The places of the ready tickets of a worker's pool, the next one first.
     fn queue(&self, worker: u32) -> &[Place]
         requires { worker < length self.now.layout.workers }
-        ensures places { result.now ≡ map place_of (queue_of (worker_pool self.now.layout (slice_get self.now.layout.workers worker)) self.now.fair.tickets self.now.ready) }
+        ensures places { result.now ≡ map rank_of (queue_of (worker_pool self.now.layout (slice_get self.now.layout.workers worker)) self.now.fair.tickets self.now.ready) }
         ensures rising { Rises job_before self.now.fair.tickets }
     {
         self.waiting.queue(self.declared.worker_pool(worker))
