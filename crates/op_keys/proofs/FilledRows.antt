@@ -1,5 +1,5 @@
 -- Worked rows: templates that are filled, and levels that may start.
-use Rattle.std.proofs.Common.{◌≡◌, List, ℕ, Some, None, true, false, codes, refl}
+use Rattle.std.proofs.Common.{◌≡◌, Some, None, true, false, codes, refl}
 use Rattle.op_keys.specs.Filling.{filled}
 use Rattle.op_keys.specs.Levels.{permitted}
 use Rattle.op_keys.specs.declared.level.Level.TheVariants.{Harmless, MostlyHarmless, Average, AboveAverage, Dangerous}

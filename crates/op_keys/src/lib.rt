@@ -1,7 +1,8 @@
-//! Declarations of operations, and the orders that they make.
+//! Declarations of operations, and the orders for their workers.
 //!
-//! `declarations` has what a pipeline file declares beside its inputs and nodes, `level` which
-//! levels may start, `order` the words of a child process, filled from an operation's templates.
+//! `declarations` has what a pipeline file declares beside its inputs and nodes, `names` finds them,
+//! `level` says which levels may start, `order` has the words of a child process, filled from an
+//! operation's templates.
 #![tactic(auto)]
 
 mod copying;

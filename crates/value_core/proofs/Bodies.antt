@@ -72,7 +72,7 @@ if_means : (m : Mode) (k : ℕ) (b : Bool) (x y : Step) → (b ≡ true → Mean
 if_means m k true x y f g = f refl
 if_means m k false x y f g = g refl
 
-plain_right : (b : ℕ) → (b == 34) ≡ false → (b == 92) ≡ false → (nat_lt b 32 || b == 127) ≡ false → is_right (plain b) ≡ true
+pub plain_right : (b : ℕ) → (b == 34) ≡ false → (b == 92) ≡ false → (nat_lt b 32 || b == 127) ≡ false → is_right (plain b) ≡ true
 plain_right b q s c = grind (arith, nat_tests, q, s, c)
 
 quote_slash : (b : ℕ) → (b == 34 || b == 92) ≡ true → (is_right (short b) ≡ true) × (short_value b ≡ b)

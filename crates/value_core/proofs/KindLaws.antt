@@ -1,16 +1,16 @@
 -- What a function gives for a value of a kind that it takes is of the kind that it gives.
 use Rattle.std.proofs.Common.{◌≡◌, ℕ, Bool, true, false, cond, List, [], ◌∷◌, ◌++◌, length, refl, sym, ap, subst, ◌∙◌}
-use Rattle.std.specs.Prelude.{Option, Some, None, ◌&&◌, codes}
+use Rattle.std.specs.Prelude.{Option, Some, None, codes}
 use Rattle.std.specs.Fmt.{decimal}
 use Rattle.std.specs.List.{list_all}
 use Rattle.value_core.specs.declared.function.Applied.{Applied}
 use Rattle.value_core.specs.declared.function.Applied.TheVariants.{Fine, Bad}
 use Rattle.value_core.specs.declared.function.Fun.{Fun}
 use Rattle.value_core.specs.declared.function.Fun.TheVariants as fun
-use Rattle.value_core.specs.declared.value.Kind.{Kind, Kind-F, roll-Kind, out-Kind, map-Kind, fold-roll-Kind, fold_out-Kind}
+use Rattle.value_core.specs.declared.value.Kind.{Kind, Kind-F, out-Kind, map-Kind, fold_out-Kind}
 use Rattle.value_core.specs.declared.value.Kind.TheVariants as kind
 use Rattle.value_core.specs.declared.value.Outcome.{Outcome, Outcome-F, out-Outcome}
-use Rattle.value_core.specs.declared.value.Value.{Value, Value-F, roll-Value, out-Value, out-roll-Value}
+use Rattle.value_core.specs.declared.value.Value.{Value, Value-F, out-Value}
 use Rattle.value_core.specs.declared.value.Value.TheVariants as value
 use Rattle.value_core.specs.Codes.{kind_code}
 use Rattle.value_core.specs.Cuts.{trimmed}

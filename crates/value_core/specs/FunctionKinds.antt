@@ -6,7 +6,9 @@ use Rattle.value_core.specs.declared.function.Fun.{Fun}
 use Rattle.value_core.specs.declared.function.Fun.TheVariants as fun
 use Rattle.value_core.specs.declared.value.Kind.{Kind, Kind-F, out-Kind}
 use Rattle.value_core.specs.declared.value.Kind.TheVariants as kind
+use Rattle.value_core.specs.declared.value.Value.{Value}
 use Rattle.value_core.specs.Codes.{kind_code}
+use Rattle.value_core.specs.Functions.{fn_value}
 use Rattle.value_core.specs.Same.{same}
 use Rattle.value_core.specs.Values.{fits_kind}
 
@@ -62,3 +64,7 @@ kind_given fun.Must k = demanded_kind (out-Kind k)
 abbrev pub IsOfKind : Kind → Applied → Type 0
 IsOfKind k (Fine v) = fits_kind k v ≡ true
 IsOfKind k (Bad m) = Unit {0}
+
+-- a function over a value of a kind that it takes fails, or returns a value of the kind that it promises for it
+abbrev pub KeepsKinds : Type 0
+KeepsKinds = (f : Fun) (k to : Kind) (v : Value) → kind_given f k ≡ Some to → fits_kind k v ≡ true → IsOfKind to (fn_value f v)

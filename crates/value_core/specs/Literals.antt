@@ -89,6 +89,6 @@ FailsLiteral NoMemory read = Unit {0}
 FailsLiteral NotLiteral read = read ≡ None
 
 -- what was returned is the value, or out of memory
-abbrev pub GivesLiteral : Result Value LiteralFault → Option Value → Type 0
-GivesLiteral (Ok v) read = read ≡ Some v
-GivesLiteral (Err fault) read = FailsLiteral fault read
+abbrev pub ReturnsLiteral : Result Value LiteralFault → Option Value → Type 0
+ReturnsLiteral (Ok v) read = read ≡ Some v
+ReturnsLiteral (Err fault) read = FailsLiteral fault read

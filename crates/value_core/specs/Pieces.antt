@@ -1,7 +1,8 @@
 -- What a string is, apart from how it is read.
-use Rattle.std.specs.Prelude.{◌≡◌, ℕ, ◌+◌, ◌*◌, ◌==◌, ◌||◌, ◌&&◌, not, nat_lt, if◌then◌else◌, Bool, true, List, [], ◌∷◌, ◌++◌, map}
+use Rattle.std.specs.Prelude.{◌≡◌, ℕ, ◌+◌, ◌*◌, ◌==◌, ◌||◌, ◌&&◌, not, nat_lt, if◌then◌else◌, Bool, true, List, [], ◌∷◌, ◌++◌, length, map, Some}
 use Rattle.std.specs.List.{flat_map, list_all}
-use Rattle.value_core.specs.Strings.{is_hex, hex_value, is_control}
+use Rattle.value_core.specs.declared.strings.Mode.TheVariants.{Plain}
+use Rattle.value_core.specs.Strings.{is_hex, hex_value, is_control, body_at}
 
 -- A byte as it is, a backslash with a byte, or `\x` with two digits.
 pub data Piece : Type 0 where
@@ -34,3 +35,13 @@ is_right (hex h l) = is_hex h && (is_hex l && (nat_lt (hex_value h) 8 && is_cont
 -- The bytes after an opening quote begin with pieces and the closing quote, and the pieces spell the text.
 abbrev pub BeginsString : List ℕ → List ℕ → Type 0
 BeginsString bytes text = (ps : List Piece) × (rest : List ℕ) × (list_all is_right ps ≡ true) × (bytes ≡ flat_map spelled ps ++ 34 ∷ rest) × (text ≡ map meant ps)
+
+-- what is read as a string begins with pieces that spell its text
+abbrev pub ReadsNoOther : Type 0
+ReadsNoOther = (bytes text : List ℕ) (n : ℕ) → body_at Plain bytes ≡ Some (text, n) → BeginsString bytes text
+
+-- pieces and a closing quote are read as the text that they spell, and take all of their bytes, whatever follows
+abbrev pub ReadsAllPieces : Type 0
+ReadsAllPieces =
+    (ps : List Piece) (rest : List ℕ) → list_all is_right ps ≡ true →
+    body_at Plain (flat_map spelled ps ++ 34 ∷ rest) ≡ Some (map meant ps, length (flat_map spelled ps) + 1)

@@ -18,6 +18,6 @@ FailsText NoMemory read = Unit {0}
 FailsText fault read = read ≡ Err fault
 
 -- what was returned is what the bytes are read as, or out of memory
-abbrev pub GivesText : Result (List ℕ) TextFault → Result (List ℕ) TextFault → Type 0
-GivesText (Ok text) read = read ≡ Ok text
-GivesText (Err fault) read = FailsText fault read
+abbrev pub ReturnsText : Result (List ℕ) TextFault → Result (List ℕ) TextFault → Type 0
+ReturnsText (Ok text) read = read ≡ Ok text
+ReturnsText (Err fault) read = FailsText fault read

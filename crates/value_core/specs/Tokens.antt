@@ -100,9 +100,9 @@ FailsNext NoMemory next = Unit {0}
 FailsNext (Lex offset) next = next ≡ Err offset
 
 -- what was returned is the next token, or out of memory
-abbrev pub GivesNext : Result Next TokenFault → Result Next ℕ → Type 0
-GivesNext (Ok found) next = next ≡ Ok found
-GivesNext (Err e) next = FailsNext e next
+abbrev pub ReturnsNext : Result Next TokenFault → Result Next ℕ → Type 0
+ReturnsNext (Ok found) next = next ≡ Ok found
+ReturnsNext (Err e) next = FailsNext e next
 
 -- a token that was found begins at this offset or later, takes a byte at least and ends within n
 abbrev pub EndsWithin : ℕ → ℕ → Next → Type 0

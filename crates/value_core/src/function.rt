@@ -1,11 +1,7 @@
 //! The functions from one value to another.
-ghost use Rattle.std.specs.Prelude.{◌≡◌, ◌+◌, ◌≤◌, true, Some, IfOk, OnOk};
-ghost use Rattle.value_core.specs.declared.value.Kind.{Kind};
-ghost use Rattle.value_core.specs.declared.value.Value.{Value};
-ghost use Rattle.value_core.specs.declared.function.Fun.{Fun};
-ghost use Rattle.value_core.specs.FunctionKinds.{IsOfKind, kind_given};
+ghost use Rattle.std.specs.Prelude.{◌≡◌, ◌+◌, ◌≤◌, IfOk, OnOk};
+ghost use Rattle.value_core.specs.FunctionKinds.{KeepsKinds};
 ghost use Rattle.value_core.specs.Functions.{fn_value};
-ghost use Rattle.value_core.specs.Values.{fits_kind};
 
 use crate::NoMemory;
 use crate::applying::{
@@ -105,5 +101,5 @@ pub fn apply_fn<L: Ledger>(
 /// A function over a value of a kind that it takes fails, or returns a value of the kind that it promises
 /// for it.
 pub fn kind_law()
-    ensures { (f : Fun) (k to : Kind) (v : Value) → kind_given f k ≡ Some to → fits_kind k v ≡ true → IsOfKind to (fn_value f v) }
+    ensures { KeepsKinds }
 {}

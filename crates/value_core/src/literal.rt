@@ -1,7 +1,7 @@
 //! Literals, read from their bytes.
 ghost use Rattle.std.specs.Prelude.{◌≡◌, IfOk};
 ghost use Rattle.std.specs.Option.{option_map};
-ghost use Rattle.value_core.specs.Literals.{GivesLiteral, is_mark_of, item_texts, tokens_in, list_literal, list_texts, literal_of, literal_read, single_literal};
+ghost use Rattle.value_core.specs.Literals.{ReturnsLiteral, is_mark_of, item_texts, tokens_in, list_literal, list_texts, literal_of, literal_read, single_literal};
 ghost use Rattle.value_core.specs.Parts.{text_values};
 
 use crate::NoMemory;
@@ -127,7 +127,7 @@ pub fn literal_in(alloc: Global, tokens: &[TokenAt]) -> Result<Option<Value>, No
 /// Reads a value from its bytes: one string, one number, or one list of strings. Blank space and
 /// comments may surround its tokens.
 pub fn read_literal(alloc: Global, bytes: &[u8]) -> Result<Value, LiteralFault>
-    ensures { GivesLiteral result (literal_read bytes.now) }
+    ensures { ReturnsLiteral result (literal_read bytes.now) }
 {
     let Tokens { tokens, stop } = tokens_of(alloc, bytes)?;
     if let Stop::Lex(_) = stop {

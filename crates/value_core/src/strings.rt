@@ -2,7 +2,7 @@
 ghost use Rattle.std.specs.Prelude.{◌≡◌, ◌++◌, ◌∷◌, map, ◌+◌, ◌≤◌, List, ℕ, length, IfOk, IfSome, MatchOption, Some, None, true};
 ghost use Rattle.std.specs.List.{list_all, flat_map};
 ghost use Rattle.value_core.specs.declared.strings.Mode.TheVariants.{Plain, Slash, Digit};
-ghost use Rattle.value_core.specs.Pieces.{Piece, spelled, meant, is_right, BeginsString};
+ghost use Rattle.value_core.specs.Pieces.{ReadsAllPieces, ReadsNoOther};
 ghost use Rattle.value_core.specs.Strings.{step, body_at};
 
 use crate::NoMemory;
@@ -122,8 +122,8 @@ pub(crate) fn take_body(alloc: Global, bytes: &[u8]) -> Result<Option<(Vec<u8>, 
     Ok(None)
 }
 
-/// A string is read just as it is spelled: by pieces, each a byte as it is or an escape.
+/// A string is read exactly as it is spelled: by pieces, each a byte as it is or an escape.
 pub fn string_law()
-    ensures found { (bytes text : List ℕ) (n : ℕ) → body_at Plain bytes ≡ Some (text, n) → BeginsString bytes text }
-    ensures all { (ps : List Piece) (rest : List ℕ) → list_all is_right ps ≡ true → body_at Plain (flat_map spelled ps ++ 34 ∷ rest) ≡ Some (map meant ps, length (flat_map spelled ps) + 1) }
+    ensures found { ReadsNoOther }
+    ensures all { ReadsAllPieces }
 {}

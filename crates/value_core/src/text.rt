@@ -58,7 +58,7 @@ impl From<AllocError> for TextFault {
 }
 
 impl Text {
-    ghost use Rattle.value_core.specs.Reading.{text_read, GivesText};
+    ghost use Rattle.value_core.specs.Reading.{text_read, ReturnsText};
 
     /// The empty text.
     pub fn new(alloc: Global) -> Text
@@ -88,7 +88,7 @@ impl Text {
 
     /// Reads bytes from outside, such as a file, where a final newline belongs to no text.
     pub fn as_text(alloc: Global, bytes: &[u8]) -> Result<Text, TextFault>
-        ensures { GivesText result (text_read bytes.now) }
+        ensures { ReturnsText result (text_read bytes.now) }
     {
         if TEXT_LIMIT < bytes.len() {
             return Err(TextFault::TooLarge(bytes.len()));

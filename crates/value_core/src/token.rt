@@ -6,7 +6,7 @@ ghost use Rattle.value_core.specs.declared.strings.Mode.TheVariants.{Plain};
 ghost use Rattle.value_core.specs.Names.{is_word_byte};
 ghost use Rattle.value_core.specs.Strings.{body_at};
 ghost use Rattle.value_core.specs.Texts.{no_nul};
-ghost use Rattle.value_core.specs.Tokens.{word_token, string_at, token_at, next_at, GivesNext, EndsWithin};
+ghost use Rattle.value_core.specs.Tokens.{word_token, string_at, token_at, next_at, ReturnsNext, EndsWithin};
 
 use crate::NoMemory;
 use crate::blanks::past_blank;
@@ -155,7 +155,7 @@ fn take_token(alloc: Global, bytes: &[u8]) -> Result<Option<(Token, usize)>, NoM
 /// The next token from an offset on; blank space and comments are passed over.
 pub fn next_token(alloc: Global, bytes: &[u8], from: usize) -> Result<Next, TokenFault>
     requires { from ≤ length bytes.now }
-    ensures next { GivesNext result (next_at bytes.now from) }
+    ensures next { ReturnsNext result (next_at bytes.now from) }
     ensures within { IfOk result (λ n. EndsWithin from (length bytes.now) n) }
 {
     let offset = past_blank(bytes, from);
