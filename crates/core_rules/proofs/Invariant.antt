@@ -11,7 +11,7 @@ use Rattle.core_rules.specs.Laws.{Invariant}
 use Rattle.core_rules.specs.Openings.{Durable, IsDurable, opened, start}
 use Rattle.core_rules.specs.Replays.{Replays}
 use Rattle.core_rules.specs.declared.log.Logged.{Logged}
-use Rattle.core_rules.specs.Replies.{Reply}
+use Rattle.core_rules.specs.declared.done.Done.{Done}
 use Rattle.core_rules.specs.Steps.{Accepted, step}
 use Rattle.core_rules.specs.declared.events.Event.{Event}
 use Rattle.op_keys.specs.declared.level.Level.{Level}
@@ -27,7 +27,7 @@ invariant_at_opening program durable threshold reading s d h = record {
   referred = referred_settled (opened program durable threshold reading) s h;
 }
 
-pub invariant_through_step : (s : CoreState) (e : Event) (s' : CoreState) (r : Reply) → step s e ≡ Accepted s' r → Invariant s → Invariant s'
+pub invariant_through_step : (s : CoreState) (e : Event) (s' : CoreState) (r : Done) → step s e ≡ Accepted s' r → Invariant s → Invariant s'
 invariant_through_step s e s' r h i = record {
   one_each = one_step s e s' r h i.one_each;
   within = within_step s e s' r h i.within;
@@ -36,7 +36,7 @@ invariant_through_step s e s' r h i = record {
   referred = referred_step s e s' r h;
 }
 
-pub version_rises : (s : CoreState) (e : Event) (s' : CoreState) (r : Reply) → step s e ≡ Accepted s' r → s'.version ≡ s.version + 1
+pub version_rises : (s : CoreState) (e : Event) (s' : CoreState) (r : Done) → step s e ≡ Accepted s' r → s'.version ≡ s.version + 1
 version_rises s e s' r h = let a = accepts s e s' r h in ap (λ z. z.version) a.new
 
 pub invariant_where_reached : (program : Program) (durable : Durable) (threshold : Option Level) (reading : ℕ) (s : CoreState) (es : List Logged) (t : CoreState) →

@@ -14,7 +14,9 @@ pub mod Tickets
 pub mod Published
 pub mod Invariant
 pub mod Parts
-pub mod Boards
+pub mod Trying
+pub mod Storing
+pub mod Bounded
 pub mod Cases
 pub mod OneBuild
 pub mod FewEntries

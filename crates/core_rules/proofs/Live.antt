@@ -13,7 +13,7 @@ use Rattle.core_rules.specs.Settling.{dropped, live_on, lost_marked, mark_lost, 
 use Rattle.core_rules.specs.declared.jobs.Job.{Job}
 
 -- a test that fails at each job of a list fails at each that stays
-find-filter_none : (p q : Job → Bool) (js : List Job) → find p js ≡ None → find p (filter q js) ≡ None
+pub find-filter_none : (p q : Job → Bool) (js : List Job) → find p js ≡ None → find p (filter q js) ≡ None
 find-filter_none p q [] e = refl
 find-filter_none p q (j ∷ js) e = elim (p j) as (λ b. p j ≡ b → cond b (Some j) (find p js) ≡ None → find p (cond (q j) (j ∷ filter q js) (filter q js)) ≡ None) [
   | true ↦ λ is h. let k : ⊥ = cc in absurd k
@@ -64,7 +64,7 @@ one_each_like js ks e h = one_from ks (subst Apart (sym e) (apart_from js h))
 
 -- ---- a new job
 
-on_key_back : (t u : Triple) → on_key u.op u.key t ≡ false → on_key t.op t.key u ≡ false
+pub on_key_back : (t u : Triple) → on_key u.op u.key t ≡ false → on_key t.op t.key u ≡ false
 on_key_back t u e = false_from_ne_true (on_key t.op t.key u) (λ h.
     let k = and_parts (u.op == t.op) (bytes_eq u.key t.key) h in
     both_ways (on_key u.op u.key t) e (and_from (t.op == u.op) (bytes_eq t.key u.key)

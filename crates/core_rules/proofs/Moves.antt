@@ -9,7 +9,7 @@ use Rattle.core_rules.specs.Changes.{Change, Idles, Makes, Refuses, Tried, cance
 use Rattle.core_rules.specs.Core.{CoreState, job_numbered, stage, with_job, without_job}
 use Rattle.core_rules.specs.Exits.{exit_outcome}
 use Rattle.core_rules.specs.Orders.{finish, finish_by, leave, picked, result_row, take_by, take_job, take_pick, taken}
-use Rattle.core_rules.specs.Replies.{Reply}
+use Rattle.core_rules.specs.declared.done.Done.{Done}
 use Rattle.core_rules.specs.Settling.{is_unmarked, live_on, settle}
 use Rattle.core_rules.specs.Steps.{Accepted, Refused, answer, at_time, change, reply_of, settled_answer, step}
 use Rattle.core_rules.specs.declared.events.Event.{Event}
@@ -54,7 +54,7 @@ pub data Moved (s t : CoreState) : Type 0 where
   -- a job goes
   Gone : Frame s t → (n : ℕ) (j : Job) → job_numbered s.jobs n ≡ Some j → t.jobs ≡ without_job j.number s.jobs → t.rows ≡ s.rows → TicketGone s t j → Moved s t
   -- a job goes and leaves a row
-  Done : Frame s t → (n : ℕ) (j : Job) → job_numbered s.jobs n ≡ Some j → t.jobs ≡ without_job j.number s.jobs → (k : RowKey) (r : Row) → r.finished ≡ s.now → r.job ≡ j.number → t.rows ≡ insert s.rows k r → TicketGone s t j → Moved s t
+  Ended : Frame s t → (n : ℕ) (j : Job) → job_numbered s.jobs n ≡ Some j → t.jobs ≡ without_job j.number s.jobs → (k : RowKey) (r : Row) → r.finished ≡ s.now → r.job ≡ j.number → t.rows ≡ insert s.rows k r → TicketGone s t j → Moved s t
   -- a row is marked
   Marked : Frame s t → t.jobs ≡ s.jobs → (k : RowKey) (r : Row) → get s.rows k ≡ Some r → t.rows ≡ insert s.rows k (record r { rebuild = true }) → t.fair.tickets ≡ s.fair.tickets → Moved s t
   -- a job is taken
@@ -103,7 +103,7 @@ cancel_moves s n None is = barred s _
 cancel_moves s n (Some j) is = if_moves s (is_unmarked j.mark) _ _
     (λ _. if_moves s (is_some j.worker) _ _
     (λ _. makes s _ (Noted (record { program = refl; now = refl; next = refl; version = refl }) j.number (λ k. record k { mark = User }) (record { number = λ _. refl; triple = λ _. refl; worker = λ _. refl }) refl refl refl))
-    (λ e. makes s _ (Done (record { program = refl; now = refl; next = refl; version = refl }) n j is refl _ (cancelled_row s j) refl refl refl (ticket_goes s j e))))
+    (λ e. makes s _ (Ended (record { program = refl; now = refl; next = refl; version = refl }) n j is refl _ (cancelled_row s j) refl refl refl (ticket_goes s j e))))
     (λ _. barred s _)
 
 rebuild_row_moves : (s : CoreState) (k : RowKey) (o : Option Row) → get s.rows k ≡ o → Moves s (rebuild_row s k o)
@@ -138,7 +138,7 @@ take_moves : (s : CoreState) (w : ℕ) → Moves s (take_by s w)
 take_moves s w = if_moves s (nat_lt w (length s.program.workers)) _ _ (λ _. take_pick_moves s w (picked s w) refl) (λ _. barred s _)
 
 leave_moves : (s : CoreState) (n : ℕ) (j : Job) (r : Row) (e : Ending) (log : List ℕ) → job_numbered s.jobs n ≡ Some j → is_some j.worker ≡ true → r.finished ≡ s.now → r.job ≡ j.number → Moves s (leave s j r e log)
-leave_moves s n j r e log is w fin num = makes s _ (Done (record { program = refl; now = refl; next = refl; version = refl }) n j is refl _ r fin num refl (ticket_stays s j w))
+leave_moves s n j r e log is w fin num = makes s _ (Ended (record { program = refl; now = refl; next = refl; version = refl }) n j is refl _ r fin num refl (ticket_stays s j w))
 
 finish_by_moves : (m : Mark) (s : CoreState) (n : ℕ) (j : Job) (x : Exit) → job_numbered s.jobs n ≡ Some j → is_some j.worker ≡ true → Moves s (finish_by m s j x)
 finish_by_moves Automatic s n j x is w = makes s _ (Gone (record { program = refl; now = refl; next = refl; version = refl }) n j is refl refl (ticket_stays s j w))
@@ -163,28 +163,29 @@ change_moves s (what.Take w) = take_moves s w
 change_moves s (what.Finish n x) = finish_moves s n (job_numbered s.jobs n) x refl
 
 -- an accepted step makes its own change, settles, and raises the version
-pub record Accepts (s : CoreState) (e : Event) (s' : CoreState) (r : Reply) : Type 0 where
+pub record Accepts (s : CoreState) (e : Event) (s' : CoreState) (r : Done) : Type 0 where
   pub own : Change
   pub changed : change (at_time s e.at) e.what ≡ Makes own
+  pub left : (s.version == 2 ^ 64 - 1) ≡ false
   pub after : CoreState
   pub settled : settle own.state ≡ Some after
   pub new : s' ≡ record after { version = s.version + 1 }
   pub reply : r ≡ reply_of s own after
   pub moved : Moved (at_time s e.at) own.state
 
-settled_accepts : (s : CoreState) (e : Event) (s' : CoreState) (r : Reply) (c : Change) → change (at_time s e.at) e.what ≡ Makes c → (o : Option CoreState) → settle c.state ≡ o →
+settled_accepts : (s : CoreState) (e : Event) (s' : CoreState) (r : Done) (c : Change) → change (at_time s e.at) e.what ≡ Makes c → (s.version == 2 ^ 64 - 1) ≡ false → (o : Option CoreState) → settle c.state ≡ o →
     settled_answer s c o ≡ Accepted s' r → Accepts s e s' r
-settled_accepts s e s' r c is None o h = let z : ⊥ = cc in absurd z
-settled_accepts s e s' r c is (Some t) o h = record { own = c; changed = is; after = t; settled = o; new = cc; reply = cc; moved = change_moves (at_time s e.at) e.what c is }
+settled_accepts s e s' r c is l None o h = let z : ⊥ = cc in absurd z
+settled_accepts s e s' r c is l (Some t) o h = record { own = c; changed = is; left = l; after = t; settled = o; new = cc; reply = cc; moved = change_moves (at_time s e.at) e.what c is }
 
-answer_accepts : (s : CoreState) (e : Event) (s' : CoreState) (r : Reply) (x : Tried) → change (at_time s e.at) e.what ≡ x → answer s x ≡ Accepted s' r → Accepts s e s' r
+answer_accepts : (s : CoreState) (e : Event) (s' : CoreState) (r : Done) (x : Tried) → change (at_time s e.at) e.what ≡ x → answer s x ≡ Accepted s' r → Accepts s e s' r
 answer_accepts s e s' r (Refuses f) is h = let z : ⊥ = cc in absurd z
 answer_accepts s e s' r (Idles n) is h = let z : ⊥ = cc in absurd z
-answer_accepts s e s' r (Makes c) is h = elim (s.version == 2 ^ 64 - 1) as (λ b. (if b then Refused refusal.NumbersUsed else settled_answer s c (settle c.state)) ≡ Accepted s' r → Accepts s e s' r) [
-  | true ↦ λ k. let z : ⊥ = cc in absurd z
-  | false ↦ λ k. settled_accepts s e s' r c is (settle c.state) refl k
-] h
+answer_accepts s e s' r (Makes c) is h = elim (s.version == 2 ^ 64 - 1) as (λ b. (s.version == 2 ^ 64 - 1) ≡ b → (if b then Refused refusal.NumbersUsed else settled_answer s c (settle c.state)) ≡ Accepted s' r → Accepts s e s' r) [
+  | true ↦ λ l k. let z : ⊥ = cc in absurd z
+  | false ↦ λ l k. settled_accepts s e s' r c is l (settle c.state) refl k
+] refl h
 
-pub accepts : (s : CoreState) (e : Event) (s' : CoreState) (r : Reply) → step s e ≡ Accepted s' r → Accepts s e s' r
+pub accepts : (s : CoreState) (e : Event) (s' : CoreState) (r : Done) → step s e ≡ Accepted s' r → Accepts s e s' r
 unfolding step
 accepts s e s' r h = answer_accepts s e s' r (change (at_time s e.at) e.what) refl h

@@ -7,14 +7,14 @@ use Rattle.std.specs.FinMap.{get, insert, remove, entries, get-insert, get-remov
 use Rattle.std.specs.FinMap.Entries.{find as find_entry}
 use Rattle.value_core.specs.declared.state.Triple.{Triple}
 use Rattle.core_rules.proofs.Helpers.{all_filter, all_push, chosen}
-use Rattle.core_rules.proofs.Moves.{Aside, Done, Frame, Gone, Marked, Moved, Noted, Took, accepts}
+use Rattle.core_rules.proofs.Moves.{Aside, Ended, Frame, Gone, Marked, Moved, Noted, Took, accepts}
 use Rattle.core_rules.proofs.Rising.{all_map, all_with, below_more, found_below, rising_filter, rising_map, rising_push, rising_with}
 use Rattle.core_rules.proofs.Settling.{kept_by_creating, same_settled}
 use Rattle.core_rules.specs.Core.{CoreState, is_output, op_of, with_job, without_job}
 use Rattle.core_rules.specs.Entries.{key_for}
 use Rattle.core_rules.specs.Laws.{Numbered, RowsWithin}
 use Rattle.core_rules.specs.Openings.{Durable, IsDurable, latest, opened, start}
-use Rattle.core_rules.specs.Replies.{Reply}
+use Rattle.core_rules.specs.declared.done.Done.{Done}
 use Rattle.core_rules.specs.Settling.{created, dropped, is_lost, lost_marked, mark_lost, new_job, settle_for, stays, targets, wanted}
 use Rattle.core_rules.specs.Steps.{Accepted, at_time, step}
 use Rattle.core_rules.specs.declared.events.Event.{Event}
@@ -60,7 +60,7 @@ numbered_moved s t (Noted f n g same jobs rows tickets) h = numbered_at s.now t.
     (record { rows_within = h.rows_within; jobs_below = all_with (λ m. m < s.next) n g s.jobs same.number h.jobs_below; rising = rising_with n g s.jobs same.number h.rising })
 numbered_moved s t (Gone f n j is jobs rows tickets) h = numbered_at s.now t.now s.next t.next s.rows t.rows (without_job j.number s.jobs) t.jobs f.now f.next rows jobs
     (record { rows_within = h.rows_within; jobs_below = all_filter (λ (i : Job). i.number < s.next) (λ i. not (i.number == j.number)) s.jobs h.jobs_below; rising = rising_filter (λ i. not (i.number == j.number)) s.jobs h.rising })
-numbered_moved s t (Done f n j is jobs k r fin num rows tickets) h = numbered_at s.now t.now s.next t.next (insert s.rows k r) t.rows (without_job j.number s.jobs) t.jobs f.now f.next rows jobs
+numbered_moved s t (Ended f n j is jobs k r fin num rows tickets) h = numbered_at s.now t.now s.next t.next (insert s.rows k r) t.rows (without_job j.number s.jobs) t.jobs f.now f.next rows jobs
     (record {
       rows_within = rows_insert s.now s.next s.rows k r (omega (arith, fin)) (let l = found_below s.next n s.jobs j h.jobs_below is in omega (arith, num)) h.rows_within;
       jobs_below = all_filter (λ (i : Job). i.number < s.next) (λ i. not (i.number == j.number)) s.jobs h.jobs_below;
@@ -81,7 +81,7 @@ pub frame_of : (s t : CoreState) → Moved s t → Frame s t
 frame_of s t (Aside f jobs rows tickets) = f
 frame_of s t (Noted f n g same jobs rows tickets) = f
 frame_of s t (Gone f n j is jobs rows tickets) = f
-frame_of s t (Done f n j is jobs k r fin num rows tickets) = f
+frame_of s t (Ended f n j is jobs k r fin num rows tickets) = f
 frame_of s t (Marked f jobs k r is rows tickets) = f
 frame_of s t (Took w n j p is new) = subst (Frame s) (sym new) (record { program = refl; now = refl; next = refl; version = refl })
 
@@ -94,7 +94,7 @@ numbered_created s u h = record {
   rising = rising_push s.jobs (new_job s.next u) h.jobs_below h.rising;
 }
 
-marked_number : (ws : List Triple) (s : CoreState) (j : Job) → (mark_lost ws s j).number ≡ j.number
+pub marked_number : (ws : List Triple) (s : CoreState) (j : Job) → (mark_lost ws s j).number ≡ j.number
 marked_number ws s j = cond_both {A = Job} (is_lost ws s j) _ _ (λ k. k.number ≡ j.number) (λ _. refl) (λ _. refl)
 
 -- after the first two parts of settling
@@ -111,7 +111,7 @@ numbered_settled ws s s' e h = kept_by_creating NumberedState (λ z u _ _ p. num
 -- ---- steps and openings
 
 -- after the own change, before settling
-pub numbered_own : (s : CoreState) (e : Event) (s' : CoreState) (r : Reply) (h : step s e ≡ Accepted s' r) → NumberedState s → NumberedState (accepts s e s' r h).own.state
+pub numbered_own : (s : CoreState) (e : Event) (s' : CoreState) (r : Done) (h : step s e ≡ Accepted s' r) → NumberedState s → NumberedState (accepts s e s' r h).own.state
 numbered_own s e s' r h numbered =
     let a = accepts s e s' r h in
     let later : NumberedState (at_time s e.at) = record {
@@ -121,12 +121,12 @@ numbered_own s e s' r h numbered =
     } in
     numbered_moved (at_time s e.at) a.own.state a.moved later
 
-pub numbered_step : (s : CoreState) (e : Event) (s' : CoreState) (r : Reply) → step s e ≡ Accepted s' r → NumberedState s → NumberedState s'
+pub numbered_step : (s : CoreState) (e : Event) (s' : CoreState) (r : Done) → step s e ≡ Accepted s' r → NumberedState s → NumberedState s'
 numbered_step s e s' r h numbered =
     let a = accepts s e s' r h in
     subst NumberedState (sym a.new) (numbered_settled (wanted a.own.state) a.own.state a.after a.settled (numbered_own s e s' r h numbered))
 
-pub now_rises : (s : CoreState) (e : Event) (s' : CoreState) (r : Reply) → step s e ≡ Accepted s' r → s.now ≤ s'.now
+pub now_rises : (s : CoreState) (e : Event) (s' : CoreState) (r : Done) → step s e ≡ Accepted s' r → s.now ≤ s'.now
 now_rises s e s' r h =
     let a = accepts s e s' r h in
     let new : s'.now ≡ a.after.now = ap (λ z. z.now) a.new in
@@ -135,7 +135,7 @@ now_rises s e s' r h =
     omega arith
 
 -- a moment within a bound that no reading passes stays within it
-pub now_bounded : (s : CoreState) (e : Event) (s' : CoreState) (r : Reply) → step s e ≡ Accepted s' r → s.now ≤ 2 ^ 60 → s'.now ≤ 2 ^ 60
+pub now_bounded : (s : CoreState) (e : Event) (s' : CoreState) (r : Done) → step s e ≡ Accepted s' r → s.now ≤ 2 ^ 60 → s'.now ≤ 2 ^ 60
 now_bounded s e s' r h b =
     let a = accepts s e s' r h in
     let new : s'.now ≡ a.after.now = ap (λ z. z.now) a.new in

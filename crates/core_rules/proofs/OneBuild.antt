@@ -37,7 +37,8 @@ use Rattle.core_rules.specs.declared.events.What.TheVariants as what
 use Rattle.core_rules.specs.declared.jobs.Job.{Job}
 use Rattle.core_rules.specs.Core.{CoreState}
 use Rattle.core_rules.specs.Openings.{start}
-use Rattle.core_rules.specs.Replies.{Delta, next_alone}
+use Rattle.core_rules.specs.declared.done.Delta.{Delta}
+use Rattle.core_rules.specs.Replies.{next_alone}
 use Rattle.core_rules.proofs.Leaves.{input_is, var_is}
 use Rattle.core_rules.proofs.WorkedRuns.{Evaluated, job}
 

@@ -8,7 +8,7 @@ use Rattle.value_core.specs.declared.value.Value.{Value}
 use Rattle.value_core.specs.declared.state.Triple.{Triple}
 use Rattle.core_rules.proofs.Queued.{queued, queued_cons}
 use Rattle.core_rules.specs.Core.{CoreState, is_queued, job_numbered, layout_of, may_start, op_of, stage, when_allowed}
-use Rattle.core_rules.specs.Laws.{Invariant, WithinCapacity}
+use Rattle.core_rules.specs.Laws.{Ticketed, WithinCapacity}
 use Rattle.core_rules.specs.Orders.{is_ready, is_ready_job, load, picked, ready}
 use Rattle.core_rules.specs.Parts.{core_of, dressed, pools_of, work_of}
 use Rattle.core_rules.specs.Settling.{create, create_all, created, dropped, is_served, lost_marked, settle_for, targets}
@@ -47,7 +47,7 @@ settle_by_work us s = settle_dressed s.inputs s.version us (core_of (work_of s) 
 -- ---- pools
 
 -- whether a number stands in a list
-abbrev among : List ℕ → ℕ → Bool
+abbrev pub among : List ℕ → ℕ → Bool
 among ns n = list_any (λ m. m == n) ns
 
 abbrev jobs_in : List Ticket → List ℕ
@@ -62,7 +62,7 @@ flags_tell f n (k ∷ ks) = elim (k.job == n) as (λ b. (k.job == n) ≡ b → (
 ] refl
 
 -- a queued job that is found is among the queued
-found_queued : (js : List Job) (n : ℕ) (j : Job) → job_numbered js n ≡ Some j → is_queued j ≡ true → among (queued js) n ≡ true
+pub found_queued : (js : List Job) (n : ℕ) (j : Job) → job_numbered js n ≡ Some j → is_queued j ≡ true → among (queued js) n ≡ true
 found_queued [] n j e q = let z : ⊥ = cc in absurd z
 found_queued (i ∷ js) n j e q = elim (i.number == n) as (λ b. (i.number == n) ≡ b → cond b (Some i) (job_numbered js n) ≡ Some j → among (queued (i ∷ js)) n ≡ true) [
   | true ↦ λ is k.
@@ -74,7 +74,7 @@ found_queued (i ∷ js) n j e q = elim (i.number == n) as (λ b. (i.number == n)
 ] refl e
 
 -- a ready job is queued
-ready_queued : (s : CoreState) (j : Job) → is_ready (stage s j) ≡ true → is_queued j ≡ true
+pub ready_queued : (s : CoreState) (j : Job) → is_ready (stage s j) ≡ true → is_queued j ≡ true
 ready_queued s j e = by_worker (is_some j.worker) (may_start s.threshold (op_of s j.triple.op) || j.confirmed) e
   where
     by_worker : (w b : Bool) → is_ready (if w then Running else when_allowed b) ≡ true → not w ≡ true
@@ -92,22 +92,22 @@ ready_among s n (Some j) is = elim (is_ready (stage s j)) as (λ b. is_ready (st
   | false ↦ λ e. and_none (among (queued s.jobs) n)
 ] refl
 
-loads_at : (f : ℕ → ℕ) (at k w : ℕ) → w < k → slice_index (map f (range_with_len at k)) w ≡ f (at + w)
+pub loads_at : (f : ℕ → ℕ) (at k w : ℕ) → w < k → slice_index (map f (range_with_len at k)) w ≡ f (at + w)
 loads_at f at zero w l = absurd (omega arith)
 loads_at f at (suc k) zero l = ap f (omega arith)
 loads_at f at (suc k) (suc w) l = loads_at f (at + 1) k w (omega arith) ∙ ap f (omega arith)
 
-loads_past : (f : ℕ → ℕ) (at k w : ℕ) → k ≤ w → slice_index (map f (range_with_len at k)) w ≡ 0
+pub loads_past : (f : ℕ → ℕ) (at k w : ℕ) → k ≤ w → slice_index (map f (range_with_len at k)) w ≡ 0
 loads_past f at zero w l = refl
 loads_past f at (suc k) zero l = absurd (omega arith)
 loads_past f at (suc k) (suc w) l = loads_past f (at + 1) k w (omega arith)
 
-no_capacity : (ws : List WorkerDecl) (w : ℕ) → length ws ≤ w → capacity_of (slice_get ws w) ≡ 0
+pub no_capacity : (ws : List WorkerDecl) (w : ℕ) → length ws ≤ w → capacity_of (slice_get ws w) ≡ 0
 no_capacity [] w l = refl
 no_capacity (x ∷ ws) zero l = absurd (omega arith)
 no_capacity (x ∷ ws) (suc w) l = no_capacity ws w (omega arith)
 
-same_loads : (s : CoreState) (spare : ℕ) → WithinCapacity s.program s.jobs → (w : ℕ) → slice_index (pools_of s spare).loads w ≡ load s.jobs w
+pub same_loads : (s : CoreState) (spare : ℕ) → WithinCapacity s.program s.jobs → (w : ℕ) → slice_index (pools_of s spare).loads w ≡ load s.jobs w
 same_loads s spare h w = elim (cases_lt w (length s.program.workers)) [
   | inl l ↦ loads_at (load s.jobs) 0 (length s.program.workers) w l ∙ ap (load s.jobs) (omega arith)
   | inr l ↦
@@ -118,9 +118,9 @@ same_loads s spare h w = elim (cases_lt w (length s.program.workers)) [
 ]
 
 -- the pools of a state pick as the state does
-pub pools_pick : (s : CoreState) (spare : ℕ) → Invariant s → (w : ℕ) → pick_of (pools_of s spare) s.now w ≡ picked s w
-pools_pick s spare inv w =
+pub pools_pick : (s : CoreState) (spare : ℕ) → WithinCapacity s.program s.jobs → Ticketed s → (w : ℕ) → pick_of (pools_of s spare) s.now w ≡ picked s w
+pools_pick s spare within tickets w =
     let p : (n : ℕ) → is_ready_in (pools_of s spare) n ≡ ready s n =
-    λ n. flags_tell (ready s) n s.fair.tickets ∙ ap (λ ns. among ns n && ready s n) inv.ticketed ∙ ready_among s n (job_numbered s.jobs n) refl in
-    let q = same_loads s spare inv.within in
+    λ n. flags_tell (ready s) n s.fair.tickets ∙ ap (λ ns. among ns n && ready s n) tickets ∙ ready_among s n (job_numbered s.jobs n) refl in
+    let q = same_loads s spare within in
     λ i. pick (layout_of s.program) s.fair (λ n. p n i) (λ v. q v i) s.now w

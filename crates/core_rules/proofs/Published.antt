@@ -13,7 +13,8 @@ use Rattle.core_rules.specs.Laws.{with_changes}
 use Rattle.core_rules.specs.Replays.{Replays}
 use Rattle.core_rules.specs.declared.log.Logged.{Logged}
 use Rattle.core_rules.specs.declared.log.Logged.TheVariants as logged
-use Rattle.core_rules.specs.Replies.{Reply, changed_from}
+use Rattle.core_rules.specs.declared.done.Done.{Done}
+use Rattle.core_rules.specs.Replies.{changed_from}
 use Rattle.core_rules.specs.Settling.{wanted}
 use Rattle.core_rules.specs.Steps.{Accepted, Answer, at_time, step}
 use Rattle.core_rules.specs.declared.events.Event.{Event}
@@ -65,17 +66,17 @@ node_count : (s : CoreState) → length (states s) ≡ length s.program.nodes
 unfolding fresh
 node_count s = states_length s.program s.inputs (world s) 0 [] s.program.nodes
 
-pub changes_tell : (s : CoreState) (e : Event) (s' : CoreState) (r : Reply) → step s e ≡ Accepted s' r → with_changes (states s) r.changed ≡ states s'
+pub changes_tell : (s : CoreState) (e : Event) (s' : CoreState) (r : Done) → step s e ≡ Accepted s' r → with_changes (states s) r.changed ≡ states s'
 changes_tell s e s' r h =
     let a = accepts s e s' r h in
     let own = (frame_of (at_time s e.at) a.own.state a.moved).program in
     let settled = (same_settled (wanted a.own.state) a.own.state a.after a.settled).program in
     let lengths : length (states s) ≡ length (states a.after) = node_count s ∙ sym (ap (λ (p : Program). length p.nodes) (settled ∙ own)) ∙ sym (node_count a.after) in
-    ap (λ (q : Reply). with_changes (states s) q.changed) a.reply
+    ap (λ (q : Done). with_changes (states s) q.changed) a.reply
     ∙ changed_tells [] (states s) (states a.after) 0 refl lengths
     ∙ ap states (sym a.new)
 
-one_answer : (s t u : CoreState) (r q : Reply) (x : Answer) → x ≡ Accepted t r → x ≡ Accepted u q → t ≡ u
+one_answer : (s t u : CoreState) (r q : Done) (x : Answer) → x ≡ Accepted t r → x ≡ Accepted u q → t ≡ u
 one_answer s t u r q x e f = cc
 
 pub replays_are_one : (s t u : CoreState) (es : List Logged) → Replays s es t → Replays s es u → t ≡ u

@@ -10,16 +10,16 @@ use Rattle.core_rules.proofs.Settling.{count_wanted, counted_first, counted_late
 use Rattle.core_rules.specs.Core.{CoreState, goes_on, op_of}
 use Rattle.core_rules.specs.Entries.{refs, wants}
 use Rattle.core_rules.specs.Laws.{IsReferred}
-use Rattle.core_rules.specs.Replies.{Reply}
+use Rattle.core_rules.specs.declared.done.Done.{Done}
 use Rattle.core_rules.specs.Settling.{dropped, is_lost, is_unmarked, is_value, is_wanted, lost_marked, mark_lost, new_job, settle, settle_for, stays, target, targets, wanted}
 use Rattle.core_rules.specs.Steps.{Accepted, step}
 use Rattle.core_rules.specs.declared.events.Event.{Event}
 use Rattle.core_rules.specs.declared.jobs.Job.{Job}
 
-abbrev accounted : List Triple → CoreState → Job → Bool
+abbrev pub accounted : List Triple → CoreState → Job → Bool
 accounted ws s j = is_wanted ws j.triple || (is_some j.worker && (not (is_unmarked j.mark) || goes_on (op_of s j.triple.op)))
 
-abbrev AllAccounted : List Triple → CoreState → List Job → Type 0
+abbrev pub AllAccounted : List Triple → CoreState → List Job → Type 0
 AllAccounted ws s js = AllByRecursion (λ j. accounted ws s j ≡ true) js
 
 -- ---- what stays and is marked
@@ -62,7 +62,7 @@ targets_wanted ws js = all_filter (λ t. is_wanted ws t ≡ true) (λ t. is_valu
 
 -- ---- settling
 
-accounted_settled : (ws : List Triple) (s s' : CoreState) → settle_for ws s ≡ Some s' → AllAccounted ws s' s'.jobs
+pub accounted_settled : (ws : List Triple) (s s' : CoreState) → settle_for ws s ≡ Some s' → AllAccounted ws s' s'.jobs
 accounted_settled ws s s' e = kept_by_creating_each (λ z. AllAccounted ws z z.jobs) (λ t. is_wanted ws t ≡ true)
     (λ z u _ _ w p. all_push (λ j. accounted ws z j ≡ true) z.jobs (new_job z.next u) p (or_left (is_wanted ws u) _ w))
     (lost_marked ws (dropped ws s)) s' (targets ws s.jobs) e (targets_wanted ws s.jobs) (accounted_marks ws (dropped ws s) (filter (stays ws) s.jobs) (filter_passes (stays ws) s.jobs))
@@ -109,7 +109,7 @@ referred_settled s s' e = all_referred s' s'.jobs (accounted_after s s' e)
 versioned : (s : CoreState) (v : ℕ) → AllAccounted (wants s) s s.jobs → AllReferred (record s { version = v }) s.jobs
 versioned s v h = all_referred (record s { version = v }) s.jobs h
 
-pub referred_step : (s : CoreState) (e : Event) (s' : CoreState) (r : Reply) → step s e ≡ Accepted s' r → AllReferred s' s'.jobs
+pub referred_step : (s : CoreState) (e : Event) (s' : CoreState) (r : Done) → step s e ≡ Accepted s' r → AllReferred s' s'.jobs
 referred_step s e s' r h =
     let a = accepts s e s' r h in
     subst (λ z. AllReferred z z.jobs) (sym a.new) (versioned a.after (s.version + 1) (accounted_after a.own.state a.after a.settled))

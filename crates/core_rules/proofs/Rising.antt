@@ -30,6 +30,14 @@ found_below n m (i ∷ js) j h e = elim (i.number == m) as (λ b. cond b (Some i
   | false ↦ λ k. found_below n m js j h.1 k
 ] e
 
+-- what holds of each number holds of one that is found
+pub found_in : (P : ℕ → Type 0) (m : ℕ) (js : List Job) (j : Job) → AllByRecursion (λ (j : Job). P j.number) js → job_numbered js m ≡ Some j → P j.number
+found_in P m [] j h e = let z : ⊥ = cc in absurd z
+found_in P m (i ∷ js) j h e = elim (i.number == m) as (λ b. cond b (Some i) (job_numbered js m) ≡ Some j → P j.number) [
+  | true ↦ λ k. let is : i ≡ j = cc in subst (λ (x : Job). P x.number) is h.0
+  | false ↦ λ k. found_in P m js j h.1 k
+] e
+
 pub rising_filter : (q : Job → Bool) (js : List Job) → Rising js → Rising (filter q js)
 rising_filter q [] h = tt
 rising_filter q (j ∷ js) h = cond_both (q j) (j ∷ filter q js) (filter q js) Rising (λ _. (all_filter (λ (i : Job). j.number < i.number) q js h.0, rising_filter q js h.1)) (λ _. rising_filter q js h.1)

@@ -13,7 +13,7 @@ use Rattle.core_rules.specs.Changes.{Change, Idles, Makes, Refuses, Tried, cance
 use Rattle.core_rules.specs.Core.{CoreState, job_numbered, layout_of, may_start, op_of, stage, when_allowed}
 use Rattle.core_rules.specs.Laws.{IsStart}
 use Rattle.core_rules.specs.Orders.{finish, finish_by, is_ready, is_ready_job, load, order_for, picked, ready, take_job, take_pick}
-use Rattle.core_rules.specs.Replies.{Reply}
+use Rattle.core_rules.specs.declared.done.Done.{Done}
 use Rattle.core_rules.specs.Settling.{is_unmarked, live_on}
 use Rattle.core_rules.specs.Steps.{Accepted, at_time, change, step}
 use Rattle.core_rules.specs.declared.events.Event.{Event}
@@ -177,7 +177,7 @@ change_starts s (what.Rate pool client rate) = set_rate_starts s rate _
 change_starts s (what.Take w) = if_starts s (nat_lt w (length s.program.workers)) _ _ (take_pick_starts s w (picked s w) refl) (barred s _)
 change_starts s (what.Finish n x) = finish_starts s (job_numbered s.jobs n) x
 
-pub started : (s : CoreState) (e : Event) (s' : CoreState) (r : Reply) (o : Order) → step s e ≡ Accepted s' r → r.note ≡ note.Started o → IsStart (at_time s e.at) o
+pub started : (s : CoreState) (e : Event) (s' : CoreState) (r : Done) (o : Order) → step s e ≡ Accepted s' r → r.note ≡ note.Started o → IsStart (at_time s e.at) o
 started s e s' r o h k =
     let a = accepts s e s' r h in
     change_starts (at_time s e.at) e.what a.own o a.changed (sym (ap (λ z. z.note) a.reply) ∙ k)

@@ -5,7 +5,7 @@ use Rattle.std.specs.Prelude.{filter, if◌then◌else◌}
 use Rattle.std.specs.List.{AllByRecursion}
 use Rattle.value_core.specs.declared.state.Triple.{Triple}
 use Rattle.core_rules.proofs.Helpers.{all_filter}
-use Rattle.core_rules.proofs.Moves.{Aside, Done, Gone, Marked, Moved, Noted, SameWork, Took, accepts}
+use Rattle.core_rules.proofs.Moves.{Aside, Ended, Gone, Marked, Moved, Noted, SameWork, Took, accepts}
 use Rattle.core_rules.proofs.Numbers.{NumberedState, numbered_created, numbered_lost, numbered_opened, numbered_own}
 use Rattle.core_rules.proofs.Queued.{has_none, is_not, not_queued, not_same_back, numbers, numbers-filter, queued, queued_cons, queued_stay, queued_taken, queued_with, queued_without}
 use Rattle.core_rules.proofs.Settling.{kept_by_creating}
@@ -13,7 +13,7 @@ use Rattle.core_rules.proofs.Starts.{number_found}
 use Rattle.core_rules.specs.Core.{CoreState, has_job, is_queued, job_numbered, op_of, without_job}
 use Rattle.core_rules.specs.Laws.{JobsAbove, JobsBelow, Rising, Ticketed}
 use Rattle.core_rules.specs.Openings.{Durable, IsDurable, opened, start}
-use Rattle.core_rules.specs.Replies.{Reply}
+use Rattle.core_rules.specs.declared.done.Done.{Done}
 use Rattle.core_rules.specs.Settling.{created, dropped, is_lost, lost_marked, mark_lost, new_job, new_ticket, settle_for, stays, targets, wanted}
 use Rattle.core_rules.specs.Steps.{Accepted, at_time, step}
 use Rattle.core_rules.specs.declared.events.Event.{Event}
@@ -37,7 +37,7 @@ ticketed_moved : (s t : CoreState) → Moved s t → Rising s.jobs → Ticketed 
 ticketed_moved s t (Aside f jobs rows tickets) r h = ap numbers tickets ∙ h ∙ sym (ap queued jobs)
 ticketed_moved s t (Noted f n g same jobs rows tickets) r h = ap numbers tickets ∙ h ∙ sym (ap queued jobs ∙ queued_with n g s.jobs same)
 ticketed_moved s t (Gone f n j is jobs rows tickets) r h = ap numbers tickets ∙ gone_numbers s n j r h is ∙ sym (ap queued jobs)
-ticketed_moved s t (Done f n j is jobs k row fin num rows tickets) r h = ap numbers tickets ∙ gone_numbers s n j r h is ∙ sym (ap queued jobs)
+ticketed_moved s t (Ended f n j is jobs k row fin num rows tickets) r h = ap numbers tickets ∙ gone_numbers s n j r h is ∙ sym (ap queued jobs)
 ticketed_moved s t (Marked f jobs k row is rows tickets) r h = ap numbers tickets ∙ h ∙ sym (ap queued jobs)
 ticketed_moved s t (Took w n j p is new) r h = subst Ticketed (sym new)
     (numbers-filter (is_not j.number) s.fair.tickets ∙ ap (filter (is_not j.number)) h ∙ sym (queued_taken j.number w s.jobs r))
@@ -49,7 +49,7 @@ told_later : (q : Job → Bool) (j : Job) (js is : List Job) → JobsAbove j.num
 told_later q j js [] a h c = tt
 told_later q j js (i ∷ is) a h c = (cond_both c (j ∷ js) js (λ ks. has_job ks i.number ≡ q i) (λ _. ap (λ b. b || has_job js i.number) (not_same_back j.number i.number a.0) ∙ h.0) (λ _. h.0), told_later q j js is a.1 h.1 c)
 
-stays_told : (q : Job → Bool) (js : List Job) → Rising js → AllByRecursion (λ j. has_job (filter q js) j.number ≡ q j) js
+pub stays_told : (q : Job → Bool) (js : List Job) → Rising js → AllByRecursion (λ j. has_job (filter q js) j.number ≡ q j) js
 stays_told q [] r = tt
 stays_told q (j ∷ js) r = (
   elim (q j) as (λ b. has_job (cond b (j ∷ filter q js) (filter q js)) j.number ≡ b) [
@@ -59,12 +59,12 @@ stays_told q (j ∷ js) r = (
   told_later q j (filter q js) js r.0 (stays_told q js r.1) (q j),
 )
 
-ticketed_dropped : (ws : List Triple) (s : CoreState) → Rising s.jobs → Ticketed s → Ticketed (dropped ws s)
+pub ticketed_dropped : (ws : List Triple) (s : CoreState) → Rising s.jobs → Ticketed s → Ticketed (dropped ws s)
 ticketed_dropped ws s r h = numbers-filter (has_job (filter (stays ws) s.jobs)) s.fair.tickets
     ∙ ap (filter (has_job (filter (stays ws) s.jobs))) h
     ∙ sym (queued_stay (has_job (filter (stays ws) s.jobs)) (stays ws) s.jobs (stays_told (stays ws) s.jobs r))
 
-queued_map : (f : Job → Job) (js : List Job) → SameWork f → queued (map f js) ≡ queued js
+pub queued_map : (f : Job → Job) (js : List Job) → SameWork f → queued (map f js) ≡ queued js
 queued_map f [] k = refl
 queued_map f (j ∷ js) k = queued_cons (f j) (map f js)
     ∙ (λ i. cond (not (is_some (k.worker j i))) (k.number j i ∷ queued_map f js k i) (queued_map f js k i)) ∙ sym (queued_cons j js)
@@ -76,18 +76,18 @@ mark_same ws s = record {
   worker = λ j. cond_both {A = Job} (is_lost ws s j) _ _ (λ k. k.worker ≡ j.worker) (λ _. refl) (λ _. refl);
 }
 
-queued_push : (js : List Job) (n : ℕ) (t : Triple) → queued (js ++ new_job n t ∷ []) ≡ queued js ++ n ∷ []
+pub queued_push : (js : List Job) (n : ℕ) (t : Triple) → queued (js ++ new_job n t ∷ []) ≡ queued js ++ n ∷ []
 queued_push [] n t = refl
 queued_push (j ∷ js) n t = queued_cons j (js ++ new_job n t ∷ []) ∙ ap (λ x. cond (is_queued j) (j.number ∷ x) x) (queued_push js n t)
     ∙ elim (is_queued j) as (λ b. cond b (j.number ∷ (queued js ++ n ∷ [])) (queued js ++ n ∷ []) ≡ cond b (j.number ∷ queued js) (queued js) ++ n ∷ []) [ true ↦ refl | false ↦ refl ]
     ∙ ap (λ x. x ++ n ∷ []) (sym (queued_cons j js))
 
 -- a ticket behind all others stands last
-numbers_placed : (ks : List Ticket) (k : Ticket) → AllByRecursion (λ n. n < k.job) (numbers ks) → numbers (with_ticket k ks) ≡ numbers ks ++ k.job ∷ []
+pub numbers_placed : (ks : List Ticket) (k : Ticket) → AllByRecursion (λ n. n < k.job) (numbers ks) → numbers (with_ticket k ks) ≡ numbers ks ++ k.job ∷ []
 numbers_placed [] k h = refl
 numbers_placed (l ∷ ks) k h = ap (λ b. numbers (if b then l ∷ with_ticket k ks else k ∷ l ∷ ks)) (lt-ltb l.job k.job h.0) ∙ ap (λ x. l.job ∷ x) (numbers_placed ks k h.1)
 
-queued_below : (n : ℕ) (js : List Job) → JobsBelow n js → AllByRecursion (λ m. m < n) (queued js)
+pub queued_below : (n : ℕ) (js : List Job) → JobsBelow n js → AllByRecursion (λ m. m < n) (queued js)
 queued_below n [] h = tt
 queued_below n (j ∷ js) h = subst (AllByRecursion (λ m. m < n)) (sym (queued_cons j js))
     (cond_both (is_queued j) (j.number ∷ queued js) (queued js) (AllByRecursion (λ m. m < n)) (λ _. (h.0, queued_below n js h.1)) (λ _. queued_below n js h.1))
@@ -96,7 +96,7 @@ new_ticket_numbers : (s : CoreState) (t : Triple) (o : Option OpDecl) → AllByR
 new_ticket_numbers s t None h = numbers_placed s.fair.tickets _ h
 new_ticket_numbers s t (Some d) h = numbers_placed s.fair.tickets _ h
 
-ticketed_created : (s : CoreState) (t : Triple) → JobsBelow s.next s.jobs → Ticketed s → Ticketed (created s t)
+pub ticketed_created : (s : CoreState) (t : Triple) → JobsBelow s.next s.jobs → Ticketed s → Ticketed (created s t)
 ticketed_created s t b h =
     let below : AllByRecursion (λ m. m < s.next) (numbers s.fair.tickets) = subst (AllByRecursion (λ m. m < s.next)) (sym h) (queued_below s.next s.jobs b) in
     new_ticket_numbers s t (op_of s t.op) below ∙ ap (λ x. x ++ s.next ∷ []) h ∙ sym (queued_push s.jobs s.next t)
@@ -110,7 +110,7 @@ ticketed_settled ws s s' e n h =
 
 -- ---- steps and openings
 
-pub ticketed_step : (s : CoreState) (e : Event) (s' : CoreState) (r : Reply) → step s e ≡ Accepted s' r → NumberedState s → Ticketed s → Ticketed s'
+pub ticketed_step : (s : CoreState) (e : Event) (s' : CoreState) (r : Done) → step s e ≡ Accepted s' r → NumberedState s → Ticketed s → Ticketed s'
 ticketed_step s e s' r h numbered k =
     let a = accepts s e s' r h in
     let own = numbered_own s e s' r h numbered in

@@ -26,7 +26,8 @@ use Rattle.core_rules.specs.Changes.{Change, Makes}
 use Rattle.core_rules.specs.Core.{CoreState}
 use Rattle.core_rules.specs.Entries.{fresh_of, states, world}
 use Rattle.core_rules.specs.Openings.{Durable, latest, opened, start}
-use Rattle.core_rules.specs.Replies.{Reply, changed_from, next_alone, new_conflicts, with_numbers}
+use Rattle.core_rules.specs.declared.done.Done.{Done}
+use Rattle.core_rules.specs.Replies.{changed_from, next_alone, new_conflicts, with_numbers}
 use Rattle.core_rules.specs.Settling.{in_order, newly_marked, settle, settle_for}
 use Rattle.core_rules.specs.Steps.{Refused, Accepted, answer, at_time, change, reply_of, settled_answer, step}
 use Rattle.core_rules.proofs.Entries.{world_entry}
@@ -43,7 +44,7 @@ abbrev pub ends : ℕ → List ℕ → What
 ends job output = what.Finish job (exit.Ended (Some 0) output)
 
 -- a reply of a version and a next number that tells nothing else
-abbrev pub quiet : ℕ → ℕ → Reply
+abbrev pub quiet : ℕ → ℕ → Done
 quiet version next = record { note = note.Plain; version = version; changed = []; conflicts = []; signals = []; delta = next_alone next }
 
 -- a job for a triple that no worker has taken
@@ -114,7 +115,7 @@ opens v threshold reading is settles =
 -- ---- the answer to an event
 
 -- the reply to a change, by what the nodes came to before, come to after the own change, and come to now
-abbrev pub reply_told : CoreState → Change → CoreState → FreshRun → FreshRun → FreshRun → List (ℕ × State) → Reply
+abbrev pub reply_told : CoreState → Change → CoreState → FreshRun → FreshRun → FreshRun → List (ℕ × State) → Done
 reply_told s c after before own new changed = record {
   note = c.note;
   version = s.version + 1;

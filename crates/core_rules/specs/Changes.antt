@@ -22,7 +22,8 @@ use Rattle.core_rules.specs.declared.events.Refusal.TheVariants as refusal
 use Rattle.core_rules.specs.declared.notes.Note.{Note}
 use Rattle.core_rules.specs.declared.notes.Note.TheVariants as note
 use Rattle.core_rules.specs.Core.{CoreState, op_of, op_name, stage, with_job, without_job}
-use Rattle.core_rules.specs.Replies.{Delta, next_alone}
+use Rattle.core_rules.specs.declared.done.Delta.{Delta}
+use Rattle.core_rules.specs.Replies.{next_alone}
 use Rattle.core_rules.specs.Settling.{live_on, is_unmarked}
 
 -- a state after an event's own change, with the note, the jobs that the event marks, and what is stored
@@ -62,9 +63,17 @@ input_index s name = index_named 0 (map (λ d. d.name) s.program.inputs) name
 
 -- ---- jobs that are confirmed or cancelled
 
+-- a job that is confirmed
+abbrev pub confirmed : Job → Job
+confirmed j = record j { confirmed = true }
+
+-- the state with the job of a number confirmed
+abbrev pub confirmed_job : ℕ → CoreState → CoreState
+confirmed_job n s = record s { jobs = with_job n confirmed s.jobs }
+
 -- a waiting job is confirmed
 abbrev pub confirm_at : CoreState → Job → Stage → Tried
-confirm_at s j Waiting = plain (record s { jobs = with_job j.number (λ k. record k { confirmed = true }) s.jobs })
+confirm_at s j Waiting = plain (confirmed_job j.number s)
 confirm_at s j Ready = Refuses (refusal.NotWaiting Ready)
 confirm_at s j Running = Refuses (refusal.NotWaiting Running)
 
@@ -86,19 +95,31 @@ cancelled_row s j = row_by s j false (codes "cancelled")
 abbrev pub putting : CoreState → Row → CoreState
 putting s r = record s { rows = insert s.rows (key_of r) r }
 
+-- the state without a queued job and its ticket
+abbrev pub without_queued : ℕ → CoreState → CoreState
+without_queued n s = record s { jobs = without_job n s.jobs; fair = withdrawn n s.fair }
+
 -- a queued job goes with its ticket, and leaves a failed row
 abbrev pub cancel_queued : CoreState → Job → Tried
 cancel_queued s j = Makes (record {
-  state = putting (record s { jobs = without_job j.number s.jobs; fair = withdrawn j.number s.fair }) (cancelled_row s j);
+  state = putting (without_queued j.number s) (cancelled_row s j);
   note = note.Plain;
   marks = [];
   delta = record (next_alone s.next) { put = Some (cancelled_row s j) };
 })
 
+-- a job with the user's mark
+abbrev pub user_marked : Job → Job
+user_marked j = record j { mark = User }
+
+-- the state with the user's mark on the job of a number
+abbrev pub marked_by_user : ℕ → CoreState → CoreState
+marked_by_user n s = record s { jobs = with_job n user_marked s.jobs }
+
 -- a running job gets the user's mark
 abbrev pub cancel_running : CoreState → Job → Tried
 cancel_running s j = Makes (record {
-  state = record s { jobs = with_job j.number (λ k. record k { mark = User }) s.jobs };
+  state = marked_by_user j.number s;
   note = note.Plain;
   marks = j.number ∷ [];
   delta = next_alone s.next;

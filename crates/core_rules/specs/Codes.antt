@@ -13,6 +13,7 @@ use Rattle.fair_pool.specs.Fair.{Fair}
 use Rattle.core_rules.specs.declared.jobs.Job.{Job}
 use Rattle.core_rules.specs.contracts.jobs.Job as job
 use Rattle.core_rules.specs.Core.{CoreState}
+use Rattle.core_rules.specs.Openings.{Durable}
 
 -- the code of jobs
 abbrev pub job_code : Coded Job
@@ -33,3 +34,9 @@ core_state_code =
     (coded× (coded× (coded× program_code threshold_code) (coded× coded_ℕ coded_ℕ)) (coded× (coded× (coded_list value_code) rows_code) (coded× coded_ℕ (coded× (coded_list job_code) fair_code))))
     (λ s. (((s.program, s.threshold), (s.now, s.version)), ((s.inputs, s.rows), (s.next, (s.jobs, s.fair)))))
     (λ p. record { program = p.0.0.0; threshold = p.0.0.1; now = p.0.1.0; version = p.0.1.1; inputs = p.1.0.0; rows = p.1.0.1; next = p.1.1.0; jobs = p.1.1.1.0; fair = p.1.1.1.1 }) (λ _. refl)
+
+-- the code of what is stored of a state
+abbrev pub durable_code : Coded Durable
+durable_code =
+    code_by (List (List ℕ × Value) × (Rows × ℕ)) (coded× (coded_list (coded× (coded_list coded_ℕ) value_code)) (coded× rows_code coded_ℕ))
+    (λ d. (d.inputs, (d.rows, d.next))) (λ p. record { inputs = p.0; rows = p.1.0; next = p.1.1 }) (λ _. refl)

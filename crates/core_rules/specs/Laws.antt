@@ -1,5 +1,5 @@
 -- The laws, as statements.
-use Rattle.std.specs.Prelude.{◌≡◌, ℕ, ◌+◌, ◌<◌, ◌≤◌, true, false, ◌||◌, List, [], ◌∷◌, Option, Some, None, is_some, slice_get, slice_set, map, filter}
+use Rattle.std.specs.Prelude.{◌≡◌, ℕ, ◌+◌, ◌<◌, ◌≤◌, true, false, ◌||◌, List, [], ◌∷◌, Option, Some, None, is_some, length, slice_get, slice_set, map, filter}
 use Rattle.std.specs.List.{AllByRecursion}
 use Rattle.std.specs.FinMap.{get}
 use Rattle.value_core.specs.declared.state.State.{State}
@@ -22,7 +22,7 @@ use Rattle.core_rules.specs.Entries.{entry_in, world, states, wants, refs}
 use Rattle.core_rules.specs.Openings.{Durable, IsDurable, start}
 use Rattle.core_rules.specs.Orders.{load, order_for, picked}
 use Rattle.core_rules.specs.Replays.{Replays}
-use Rattle.core_rules.specs.Replies.{Reply}
+use Rattle.core_rules.specs.declared.done.Done.{Done}
 use Rattle.core_rules.specs.Settling.{is_unmarked, live_on, settle}
 use Rattle.core_rules.specs.Steps.{Accepted, at_time, step}
 
@@ -95,7 +95,7 @@ InvariantAtOpening = (program : Program) (durable : Durable) (threshold : Option
 
 -- an accepted event keeps them, the moment doesn't fall, and the version rises by one
 abbrev pub InvariantThroughSteps : Type 0
-InvariantThroughSteps = (s : CoreState) (e : Event) (s' : CoreState) (r : Reply) →
+InvariantThroughSteps = (s : CoreState) (e : Event) (s' : CoreState) (r : Done) →
     step s e ≡ Accepted s' r → Invariant s → Invariant s' × (s.now ≤ s'.now) × (s'.version ≡ s.version + 1)
 
 -- each state that is reached from such an opening meets them
@@ -117,7 +117,7 @@ pub record IsStart (s : CoreState) (o : Order) : Type 0 where
 
 -- each start is one, judged at the new moment
 abbrev pub StartsArePicks : Type 0
-StartsArePicks = (s : CoreState) (e : Event) (s' : CoreState) (r : Reply) (o : Order) →
+StartsArePicks = (s : CoreState) (e : Event) (s' : CoreState) (r : Done) (o : Order) →
     step s e ≡ Accepted s' r → r.note ≡ note.Started o → IsStart (at_time s e.at) o
 
 -- ---- replies
@@ -129,7 +129,7 @@ with_changes states (c ∷ cs) = with_changes (slice_set states c.0 c.1) cs
 
 -- the changed nodes of a reply, put over the old states, give the new ones
 abbrev pub ChangesTell : Type 0
-ChangesTell = (s : CoreState) (e : Event) (s' : CoreState) (r : Reply) → step s e ≡ Accepted s' r → with_changes (states s) r.changed ≡ states s'
+ChangesTell = (s : CoreState) (e : Event) (s' : CoreState) (r : Done) → step s e ≡ Accepted s' r → with_changes (states s) r.changed ≡ states s'
 
 -- a replay has one end
 abbrev pub ReplaysAreOne : Type 0

@@ -5,10 +5,12 @@ pub mod Exits
 pub mod Replies
 pub mod Changes
 pub mod Orders
+pub mod Own
 pub mod Steps
 pub mod Openings
+pub mod Stored
+pub mod Bounds
 pub mod Replays
 pub mod Laws
 pub mod Codes
 pub mod Parts
-pub mod Boards

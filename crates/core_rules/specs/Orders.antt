@@ -61,13 +61,17 @@ picked s w = pick (layout_of s.program) s.fair (ready s) (load s.jobs) s.now w
 abbrev pub voided : CoreState → Triple → Rows
 voided s t = if is_output (op_of s t.op) then remove s.rows (key_for s t) else s.rows
 
--- the job is the worker's, which has its hint; its ticket goes, and an output's row of that key too
+-- a job that a worker has taken
+abbrev pub taken_by : ℕ → Job → Job
+taken_by w j = record j { worker = Some w }
+
+-- the job of a number is the worker's, which has its hint, and its ticket goes
+abbrev pub given_to : ℕ → ℕ → CoreState → CoreState
+given_to w n s = record s { jobs = with_job n (taken_by w) s.jobs; fair = withdrawn n (hint_noted n w s.fair) }
+
+-- a worker has taken a job, and an output's row of that key goes
 abbrev pub taken : CoreState → ℕ → Job → CoreState
-taken s w j = record s {
-  jobs = with_job j.number (λ k. record k { worker = Some w }) s.jobs;
-  rows = voided s j.triple;
-  fair = withdrawn j.number (hint_noted j.number w s.fair);
-}
+taken s w j = record (given_to w j.number s) { rows = voided s j.triple }
 
 -- the words for a triple of an operation
 abbrev pub words_for : Option OpDecl → Triple → List (List ℕ)

@@ -1,33 +1,15 @@
 -- What is answered to an event that isn't refused.
-use Rattle.std.specs.Prelude.{ℕ, ◌+◌, not, Bool, ◌&&◌, nat_lt, if◌then◌else◌, List, [], ◌∷◌, length, Option, None, filter}
+use Rattle.std.specs.Prelude.{ℕ, ◌+◌, not, Bool, ◌&&◌, nat_lt, if◌then◌else◌, List, [], ◌∷◌, length, None, filter}
 use Rattle.value_core.specs.declared.state.State.{State}
 use Rattle.value_core.specs.declared.state.Triple.{Triple}
 use Rattle.value_core.specs.Codes.{state_code}
 use Rattle.value_core.specs.Same.{same}
-use Rattle.sched_rows.specs.declared.row.Row.{Row}
-use Rattle.core_rules.specs.declared.notes.Note.{Note}
+use Rattle.core_rules.specs.declared.done.Delta.{Delta}
 use Rattle.core_rules.specs.Settling.{on_key, in_order}
-
--- what is stored of a step: an input's name and printed value, a row that is put, an operation's name and a key whose row goes, a job's log, and the next number
-pub record Delta : Type 0 where
-  pub input : Option (List ℕ × List ℕ)
-  pub put : Option Row
-  pub void : Option (List ℕ × List ℕ)
-  pub log : Option (ℕ × List ℕ)
-  pub next : ℕ
 
 -- the next number alone
 abbrev pub next_alone : ℕ → Delta
 next_alone next = record { input = None; put = None; void = None; log = None; next = next }
-
--- the version, the nodes whose state changed with the new state, the keys that are wanted with two values anew, and the jobs that were marked
-pub record Reply : Type 0 where
-  pub note : Note
-  pub version : ℕ
-  pub changed : List (ℕ × State)
-  pub conflicts : List (ℕ × List ℕ)
-  pub signals : List ℕ
-  pub delta : Delta
 
 -- ---- changed nodes
 

@@ -105,6 +105,16 @@ abbrev pub least_value : List (List ℕ) → Option (List ℕ)
 least_value [] = None
 least_value (v ∷ vs) = Some (least_text v vs)
 
+-- a text, or one that isn't greater
+abbrev pub lesser : Option (List ℕ) → List ℕ → List ℕ
+lesser None v = v
+lesser (Some u) v = if is_lt (bytes_cmp v u) then v else u
+
+-- the least of some texts and one that may be there
+abbrev pub least_from : Option (List ℕ) → List (List ℕ) → Option (List ℕ)
+least_from None vs = least_value vs
+least_from (Some v) vs = Some (least_text v vs)
+
 -- the value of a job, where it is wanted
 abbrev pub wanted_value : List Triple → Job → Option (List ℕ)
 wanted_value ws j = if is_wanted ws j.triple then Some j.triple.value else None

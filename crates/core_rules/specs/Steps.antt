@@ -10,14 +10,15 @@ use Rattle.core_rules.specs.Core.{CoreState, job_numbered}
 use Rattle.core_rules.specs.Changes.{Change, Tried, Refuses, Idles, Makes, plain, input_index, set_input, confirm, cancel, op_named, rebuild, worker_named, client_named, pause, set_rate}
 use Rattle.core_rules.specs.Entries.{states, wants}
 use Rattle.core_rules.specs.Orders.{take_by, finish}
-use Rattle.core_rules.specs.Replies.{Reply, next_alone, changed_from, new_conflicts, with_numbers}
+use Rattle.core_rules.specs.declared.done.Done.{Done}
+use Rattle.core_rules.specs.Replies.{next_alone, changed_from, new_conflicts, with_numbers}
 use Rattle.core_rules.specs.Settling.{wanted, newly_marked, settle}
 
 -- an event is refused, answered without a change, or accepted with a new state
 pub data Answer : Type 0 where
   Refused : Refusal → Answer
-  Idle : Reply → Answer
-  Accepted : CoreState → Reply → Answer
+  Idle : Done → Answer
+  Accepted : CoreState → Done → Answer
 
 -- what an event changes by itself, at a moment that is set already
 abbrev pub change : CoreState → What → Tried
@@ -38,7 +39,7 @@ abbrev pub at_time : CoreState → ℕ → CoreState
 at_time s reading = record s { now = max s.now (min reading (2 ^ 60)) }
 
 -- the reply of a step from a state, by its own change, to the settled state
-abbrev pub reply_of : CoreState → Change → CoreState → Reply
+abbrev pub reply_of : CoreState → Change → CoreState → Done
 reply_of s c after = record {
   note = c.note;
   version = s.version + 1;
@@ -49,7 +50,7 @@ reply_of s c after = record {
 }
 
 -- the reply of an event that changes nothing
-abbrev pub idle_reply : CoreState → Note → Reply
+abbrev pub idle_reply : CoreState → Note → Done
 idle_reply s n = record { note = n; version = s.version; changed = []; conflicts = []; signals = []; delta = next_alone s.next }
 
 -- the settled state of the next version, or that the numbers of jobs are used up

@@ -1,26 +1,30 @@
 //! The rules of the core: what its state is, what an event makes of it, and the laws that follow.
 //!
 //! `jobs` has the jobs, `events` what happens to the core and what refuses it, `notes` what is
-//! answered, and `log` what a replay goes by. The definitions over them stand in specs/, and `laws`
-//! has the laws. `board` and `live_jobs` are the rules as a plain program, without tickets.
+//! answered, `own` what an event changes by itself as data, and `log` what a replay goes by. The
+//! definitions over them are in specs/, and `laws` has the laws. `lookups` answers small questions
+//! that the crates above ask.
 #![tactic(auto)]
 
-mod board;
+mod done;
+mod durable;
 mod events;
 mod jobs;
 mod laws;
-mod live_jobs;
 mod log;
+mod lookups;
 mod notes;
-mod triples;
+mod own;
 
-pub use board::Board;
+pub use done::{Delta, Done};
+pub use durable::Durable;
 pub use events::{Event, Refusal, What};
 pub use jobs::{Job, Mark};
 pub use laws::{
     changes_tell, invariant_at_opening, invariant_through_steps, invariant_where_reached,
     replays_are_one, settling_keeps_states, starts_are_picks, world_is_entries,
 };
-pub use live_jobs::SettleFault;
 pub use log::Logged;
+pub use lookups::{goes_on, is_latched, least_on, lesser, may_start, stage_under, when_allowed};
 pub use notes::{Ending, Note};
+pub use own::{Own, RowChange};

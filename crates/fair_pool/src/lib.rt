@@ -14,4 +14,5 @@ mod ticket;
 mod waiting;
 
 pub use pools::{Pools, RateOutOfRange};
+pub use room::insert_within;
 pub use ticket::{HintWorker, Ticket};

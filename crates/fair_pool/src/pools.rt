@@ -28,6 +28,7 @@ pub struct RateOutOfRange(pub u64);
 /// jobs by numbers of the caller's, and times are in milliseconds.
 #[derive(Drop)]
 pub struct Pools {
+    alloc: Global,
     declared: Declared,
     waiting: Waiting,
     /// The next start of each client.
@@ -106,6 +107,7 @@ impl Pools {
         let loads = vec![in alloc; 0; workers.len()]?;
         let hints = Hints::new(alloc);
         Ok(Pools {
+            alloc,
             declared,
             waiting,
             next,
@@ -229,9 +231,10 @@ impl Pools {
     }
 
     /// Equal pools, with no spare of their own.
-    pub fn copy(&self, alloc: Global) -> Result<Pools, NoMemory>
+    pub fn copy(&self) -> Result<Pools, NoMemory>
         ensures { IfOk result (λ p. p ≡ record self.now { spare = 0 }) }
     {
+        let alloc = self.alloc;
         let declared = self.declared.copy(alloc)?;
         let waiting = self.waiting.copy(alloc)?;
         let next = Vec::from_slice(alloc, self.next.as_slice())?;
@@ -240,6 +243,7 @@ impl Pools {
         let loads = Vec::from_slice(alloc, self.loads.as_slice())?;
         let hints = self.hints.copy(alloc, self.waiting.tickets().len())?;
         Ok(Pools {
+            alloc,
             declared,
             waiting,
             next,

@@ -22,6 +22,7 @@ pub struct NoRow;
 /// Rows with their expiries, in the order of names and keys, and room for `spare` rows more.
 #[derive(Drop)]
 pub struct Rows {
+    alloc: Global,
     held: Vec<Held>,
     index: ExpiryIndex,
     spare: usize,
@@ -47,6 +48,7 @@ impl Rows {
         ensures { result ≡ nothing_kept }
     {
         Rows {
+            alloc,
             held: Vec::new(alloc),
             index: ExpiryIndex::new(alloc),
             spare: 0,
@@ -163,34 +165,30 @@ impl Rows {
 
     /// The names and keys of the rows without mark that run out after one time and at another at
     /// the latest, in milliseconds since 1970, in the order of names and keys.
-    pub fn due(
-        &self,
-        alloc: Global,
-        after: u64,
-        upto: u64,
-    ) -> Result<ListOf<(Text, Text)>, NoMemory>
+    pub fn due(&self, after: u64, upto: u64) -> Result<ListOf<(Text, Text)>, NoMemory>
         ensures { IfOk result (λ keys. keys ≡ due_keys self.now after upto) }
     {
-        let places = self.index.places(alloc, after, upto)?;
-        let mut keys = ListOf::new(alloc);
+        let places = self.index.places(self.alloc, after, upto)?;
+        let mut keys = ListOf::new(self.alloc);
         for place in &places {
             let row = &self.held[*place].row;
-            keys.push((row.op.copy(alloc)?, row.key.copy(alloc)?))?;
+            keys.push((row.op.copy(self.alloc)?, row.key.copy(self.alloc)?))?;
         }
         Ok(keys)
     }
 
     /// Equal rows, without room for more.
-    pub fn copy(&self, alloc: Global) -> Result<Rows, NoMemory>
+    pub fn copy(&self) -> Result<Rows, NoMemory>
         ensures { IfOk result (λ rows. rows ≡ record self.now { spare = 0 }) }
     {
-        let mut held = Vec::new(alloc);
+        let mut held = Vec::new(self.alloc);
         for one in &self.held {
-            held.push(one.copy(alloc)?)?;
+            held.push(one.copy(self.alloc)?)?;
         }
         Ok(Rows {
+            alloc: self.alloc,
             held,
-            index: self.index.copy(alloc)?,
+            index: self.index.copy(self.alloc)?,
             spare: 0,
         })
     }

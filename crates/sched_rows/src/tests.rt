@@ -144,7 +144,7 @@ fn expect_due(
     (after, upto): (u64, u64),
     keys: &[&str],
 ) -> Result<(), Fail> {
-    let due = rows.due(alloc, after, upto)?;
+    let due = rows.due(after, upto)?;
     assert_eq!(rt; due.len(), keys.len(), "after {after} up to {upto}");
     for ((op, key), wanted) in due.as_slice().iter().zip(keys) {
         assert_eq!(rt; op.as_str(), "build");
@@ -198,7 +198,7 @@ fn rows_are_marked_taken_out_and_copied(rt: HostRuntime) -> Result<(), Fail> {
     put(alloc, &mut rows, "b", Expiry::After(70))?;
     put(alloc, &mut rows, "a", Expiry::After(70))?;
     expect_gone(&rt, alloc, &mut rows, "a")?;
-    let copy = rows.copy(alloc)?;
+    let copy = rows.copy()?;
     rows_law(&copy);
     expect_rows(&rt, &copy, &[("b", false)]);
     expect_due(&rt, alloc, &copy, (0, 170), &["b"])

@@ -343,7 +343,7 @@ fn spares_are_used_up(rt: HostRuntime) -> Result<(), Fail> {
 
 #[test]
 fn a_copy_is_equal(rt: HostRuntime) -> Result<(), Fail> {
-    let copy = hinted(rt.alloc())?.copy(rt.alloc())?;
+    let copy = hinted(rt.alloc())?.copy()?;
     assert_eq!(rt;
         (pick(&copy, "w1", 50), pick(&copy, "w2", 50)),
         (Some(2), None)
