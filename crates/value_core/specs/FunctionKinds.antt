@@ -1,4 +1,4 @@
--- Which kind of value each function takes, and which it gives for it.
+-- Which kind of value each function takes, and which it returns for it.
 use Rattle.std.specs.Prelude.{◌≡◌, true, if◌then◌else◌, Option, Some, None}
 use Rattle.value_core.specs.declared.function.Applied.{Applied}
 use Rattle.value_core.specs.declared.function.Applied.TheVariants.{Fine, Bad}
@@ -39,7 +39,7 @@ abbrev pub demanded_kind : Kind-F Kind → Option Kind
 demanded_kind (Kind-F.Out a) = Some a
 demanded_kind k = None
 
--- the kind that each function gives for a kind, where it takes that kind
+-- the kind that each function returns for a kind, if it takes that kind
 unfoldable pub kind_given : Fun → Kind → Option Kind
 kind_given fun.Trim k = given_for kind.Text kind.Text k
 kind_given fun.Lines k = given_for kind.Text (kind.List kind.Text) k

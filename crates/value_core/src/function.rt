@@ -41,7 +41,7 @@ pub enum Fun {
     Must,
 }
 
-/// What a function gives.
+/// What a function returns.
 #[derive(Drop)]
 pub enum Applied {
     Fine(Value),
@@ -85,7 +85,7 @@ fn value_of(alloc: Global, fun: Fun, v: &Value) -> Result<Applied, NoMemory>
     }
 }
 
-/// Applies a function, in one step. In a value of another kind than the function's it finds the
+/// Applies a function, in one tick. In a value of another kind than the function's it finds the
 /// empty text or list, 0, unit, or an outcome that is going.
 pub fn apply_fn<L: Ledger>(
     alloc: Global,
@@ -102,8 +102,8 @@ pub fn apply_fn<L: Ledger>(
     Ok(applied)
 }
 
-/// Each function that takes a value's kind gives a value of the kind that it gives for it, or
-/// fails.
+/// A function over a value of a kind that it takes fails, or returns a value of the kind that it promises
+/// for it.
 pub fn kind_law()
     ensures { (f : Fun) (k to : Kind) (v : Value) → kind_given f k ≡ Some to → fits_kind k v ≡ true → IsOfKind to (fn_value f v) }
 {}

@@ -37,7 +37,7 @@ fn without_newline(text: &str) -> &str
     }
 }
 
-/// Why bytes are no text.
+/// Why bytes aren't a text.
 #[derive(Debug, Drop)]
 pub enum TextFault {
     /// More bytes than `TEXT_LIMIT`, with their number.
@@ -78,7 +78,7 @@ impl Text {
         Ok(Text { text })
     }
 
-    /// The text of a `String`. Takes no memory.
+    /// The text of a `String`. Allocates nothing.
     pub fn from_string(text: String) -> Text
         requires { HasNoNul (string_bytes text) }
         ensures { result ≡ string_bytes text }
