@@ -38,7 +38,7 @@ use Rattle.core_rules.specs.Changes.{Change, Tried, cancel, cancelled_row, confi
 use Rattle.core_rules.specs.Core.{CoreState, is_output, job_numbered, op_of, stage, with_job, without_job}
 use Rattle.core_rules.specs.Entries.{key_for}
 use Rattle.core_rules.specs.Exits.{exit_outcome}
-use Rattle.core_rules.specs.Openings.{Durable, IsOpenable, IsRowOpenable, latest, opened, or_declared, start, stored_at}
+use Rattle.core_rules.specs.Openings.{Durable, IsDurable, IsOpenable, IsRowOpenable, latest, opened, or_declared, start, stored_at}
 use Rattle.core_rules.specs.Orders.{finish, finish_by, leave, picked, result_row, take_by, take_job, take_pick, taken, voided}
 use Rattle.core_rules.specs.Settling.{created, dropped, is_unmarked, live_on, lost_marked, mark_lost, new_job, new_ticket, settle_for, stays, targets, wanted}
 use Rattle.core_rules.specs.Steps.{Accepted, at_time, change, step}
@@ -287,6 +287,9 @@ row_openable next (e ∷ es) k r h f = elim (eq_by_cmp row_key_cmp k e.0) as (λ
 -- what holds of each entry holds of each row that is found
 pub found_openable : (d : Durable) (k : RowKey) (r : Row) → IsOpenable d → get d.rows k ≡ Some r → IsRowOpenable d.next (k, r)
 found_openable d k r h e = row_openable d.next (entries d.rows) k r h.rows (sym (get-entries d.rows k) ∙ e)
+
+pub durable_from : (d : Durable) → IsOpenable d → IsDurable d
+durable_from d h k r e = (found_openable d k r h e).below
 
 latest_within : (t next : ℕ) (es : List (RowKey × Row)) → t ≤ 2 ^ 60 → AllByRecursion (IsRowOpenable next) es → latest t es ≤ 2 ^ 60
 latest_within t next [] l h = l

@@ -21,10 +21,10 @@ pub chosen : {A : Type 0} (b : Bool) (x y z : A) → cond b x y ≡ z → ((b �
 chosen true x y z e = inl (refl, e)
 chosen false x y z e = inr (refl, e)
 
-pub two_choices : {A : Type 0} (b c : Bool) (x y z : A) → cond b (Some x) (cond c (Some y) None) ≡ Some z → (x ≡ z) ⊎ ((b ≡ false) × ((c ≡ true) × (y ≡ z)))
-two_choices true c x y z e = inl cc
-two_choices false true x y z e = inr (refl, (refl, cc))
-two_choices false false x y z e = let h : ⊥ = cc in absurd h
+pub second_choice : {A : Type 0} (b c : Bool) (x y z : A) → cond b (Some x) (cond c (Some y) None) ≡ Some z → (x ≡ z) ⊎ ((b ≡ false) × ((c ≡ true) × (y ≡ z)))
+second_choice true c x y z e = inl cc
+second_choice false true x y z e = inr (refl, (refl, cc))
+second_choice false false x y z e = let h : ⊥ = cc in absurd h
 
 pub any-append : {X : Type 0} (p : X → Bool) (xs ys : List X) → list_any p (xs ++ ys) ≡ (list_any p xs || list_any p ys)
 any-append p [] ys = refl

@@ -11,6 +11,7 @@ pub mod Referred
 pub mod Starts
 pub mod Queued
 pub mod Tickets
+pub mod OwnTickets
 pub mod Published
 pub mod Invariant
 pub mod Parts
@@ -32,5 +33,5 @@ pub mod HintRun
 pub mod LatchedRun
 pub mod LevelRun
 pub mod UserMarkRun
-pub mod TwoOutputs
+pub mod SharedKey
 pub mod VoidedRun

@@ -54,11 +54,11 @@ abbrev jobs_in : List Ticket → List ℕ
 jobs_in ks = map (λ k. k.job) ks
 
 -- the flags of tickets by a test of their jobs tell the test, where there is a ticket
-flags_tell : (f : ℕ → Bool) (n : ℕ) (ks : List Ticket) → flag_of n ks (map (λ k. f k.job) ks) ≡ (among (jobs_in ks) n && f n)
-flags_tell f n [] = refl
-flags_tell f n (k ∷ ks) = elim (k.job == n) as (λ b. (k.job == n) ≡ b → (if b then f k.job else flag_of n ks (map (λ k. f k.job) ks)) ≡ ((b || among (jobs_in ks) n) && f n)) [
+flags_by_test : (f : ℕ → Bool) (n : ℕ) (ks : List Ticket) → flag_of n ks (map (λ k. f k.job) ks) ≡ (among (jobs_in ks) n && f n)
+flags_by_test f n [] = refl
+flags_by_test f n (k ∷ ks) = elim (k.job == n) as (λ b. (k.job == n) ≡ b → (if b then f k.job else flag_of n ks (map (λ k. f k.job) ks)) ≡ ((b || among (jobs_in ks) n) && f n)) [
   | true ↦ λ e. ap f (eqb-true k.job n e)
-  | false ↦ λ e. flags_tell f n ks
+  | false ↦ λ e. flags_by_test f n ks
 ] refl
 
 -- a queued job that is found is among the queued
@@ -121,6 +121,6 @@ same_loads s spare h w = elim (cases_lt w (length s.program.workers)) [
 pub pools_pick : (s : CoreState) (spare : ℕ) → WithinCapacity s.program s.jobs → Ticketed s → (w : ℕ) → pick_of (pools_of s spare) s.now w ≡ picked s w
 pools_pick s spare within tickets w =
     let p : (n : ℕ) → is_ready_in (pools_of s spare) n ≡ ready s n =
-    λ n. flags_tell (ready s) n s.fair.tickets ∙ ap (λ ns. among ns n && ready s n) tickets ∙ ready_among s n (job_numbered s.jobs n) refl in
+    λ n. flags_by_test (ready s) n s.fair.tickets ∙ ap (λ ns. among ns n && ready s n) tickets ∙ ready_among s n (job_numbered s.jobs n) refl in
     let q = same_loads s spare within in
     λ i. pick (layout_of s.program) s.fair (λ n. p n i) (λ v. q v i) s.now w

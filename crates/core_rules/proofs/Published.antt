@@ -39,19 +39,19 @@ push_in : (xs : List State) (x : State) (ys : List State) → (xs ++ x ∷ []) +
 push_in [] x ys = refl
 push_in (y ∷ xs) x ys = ap (λ zs. y ∷ zs) (push_in xs x ys)
 
-changed_tells : (front old new : List State) (n : ℕ) → n ≡ length front → length old ≡ length new → with_changes (front ++ old) (changed_from n old new) ≡ front ++ new
-changed_tells front [] [] n e l = refl
-changed_tells front [] (b ∷ bs) n e l = absurd (omega arith)
-changed_tells front (a ∷ as') [] n e l = absurd (omega arith)
-changed_tells front (a ∷ as') (b ∷ bs) n e l = elim (same state_code a b) as (λ c. same state_code a b ≡ c → with_changes (front ++ a ∷ as') (if c then changed_from (n + 1) as' bs else ((n, b) ∷ changed_from (n + 1) as' bs)) ≡ front ++ b ∷ bs) [
+changed_makes : (front old new : List State) (n : ℕ) → n ≡ length front → length old ≡ length new → with_changes (front ++ old) (changed_from n old new) ≡ front ++ new
+changed_makes front [] [] n e l = refl
+changed_makes front [] (b ∷ bs) n e l = absurd (omega arith)
+changed_makes front (a ∷ as') [] n e l = absurd (omega arith)
+changed_makes front (a ∷ as') (b ∷ bs) n e l = elim (same state_code a b) as (λ c. same state_code a b ≡ c → with_changes (front ++ a ∷ as') (if c then changed_from (n + 1) as' bs else ((n, b) ∷ changed_from (n + 1) as' bs)) ≡ front ++ b ∷ bs) [
   | true ↦ λ is.
       let same : a ≡ b = same_true state_code a b is in
       ap (λ z. with_changes z (changed_from (n + 1) as' bs)) (sym (push_in front a as'))
-      ∙ changed_tells (front ++ a ∷ []) as' bs (n + 1) (length-push front a n e) (omega arith)
+      ∙ changed_makes (front ++ a ∷ []) as' bs (n + 1) (length-push front a n e) (omega arith)
       ∙ push_in front a bs ∙ ap (λ x. front ++ x ∷ bs) same
   | false ↦ λ is.
       ap (λ z. with_changes z (changed_from (n + 1) as' bs)) (set_at front a b as' n e ∙ sym (push_in front b as'))
-      ∙ changed_tells (front ++ b ∷ []) as' bs (n + 1) (length-push front b n e) (omega arith)
+      ∙ changed_makes (front ++ b ∷ []) as' bs (n + 1) (length-push front b n e) (omega arith)
       ∙ push_in front b bs
 ] refl
 
@@ -66,14 +66,14 @@ node_count : (s : CoreState) → length (states s) ≡ length s.program.nodes
 unfolding fresh
 node_count s = states_length s.program s.inputs (world s) 0 [] s.program.nodes
 
-pub changes_tell : (s : CoreState) (e : Event) (s' : CoreState) (r : Done) → step s e ≡ Accepted s' r → with_changes (states s) r.changed ≡ states s'
-changes_tell s e s' r h =
+pub changes_make_states : (s : CoreState) (e : Event) (s' : CoreState) (r : Done) → step s e ≡ Accepted s' r → with_changes (states s) r.changed ≡ states s'
+changes_make_states s e s' r h =
     let a = accepts s e s' r h in
     let own = (frame_of (at_time s e.at) a.own.state a.moved).program in
     let settled = (same_settled (wanted a.own.state) a.own.state a.after a.settled).program in
     let lengths : length (states s) ≡ length (states a.after) = node_count s ∙ sym (ap (λ (p : Program). length p.nodes) (settled ∙ own)) ∙ sym (node_count a.after) in
     ap (λ (q : Done). with_changes (states s) q.changed) a.reply
-    ∙ changed_tells [] (states s) (states a.after) 0 refl lengths
+    ∙ changed_makes [] (states s) (states a.after) 0 refl lengths
     ∙ ap states (sym a.new)
 
 one_answer : (s t u : CoreState) (r q : Done) (x : Answer) → x ≡ Accepted t r → x ≡ Accepted u q → t ≡ u

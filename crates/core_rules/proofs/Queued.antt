@@ -76,12 +76,12 @@ above_kept m (j ∷ js) a = ap (filter (is_not m)) (queued_cons j js)
 
 -- ---- jobs that go
 
-pub all_told : (h : ℕ → Bool) (js : List Job) → AllByRecursion (λ j. h j.number ≡ h j.number) js
-all_told h [] = tt
-all_told h (j ∷ js) = (refl, all_told h js)
+pub same_tests : (h : ℕ → Bool) (js : List Job) → AllByRecursion (λ j. h j.number ≡ h j.number) js
+same_tests h [] = tt
+same_tests h (j ∷ js) = (refl, same_tests h js)
 
 pub queued_without : (m : ℕ) (js : List Job) → queued (without_job m js) ≡ filter (is_not m) (queued js)
-queued_without m js = queued_stay (is_not m) (λ j. is_not m j.number) js (all_told (is_not m) js)
+queued_without m js = queued_stay (is_not m) (λ j. is_not m j.number) js (same_tests (is_not m) js)
 
 -- a job that isn't queued has no place among them
 pub not_queued : (m : ℕ) (js : List Job) (j : Job) → Rising js → job_numbered js m ≡ Some j → is_some j.worker ≡ true → filter (is_not m) (queued js) ≡ queued js

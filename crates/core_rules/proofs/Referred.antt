@@ -9,7 +9,7 @@ use Rattle.core_rules.proofs.Moves.{accepts}
 use Rattle.core_rules.proofs.Settling.{count_wanted, counted_first, counted_later, kept_by_creating_each, settled_fresh, wanted_same}
 use Rattle.core_rules.specs.Core.{CoreState, goes_on, op_of}
 use Rattle.core_rules.specs.Entries.{refs, wants}
-use Rattle.core_rules.specs.Laws.{IsReferred}
+use Rattle.core_rules.specs.Laws.{IsReferred, IsReferredBy}
 use Rattle.core_rules.specs.declared.done.Done.{Done}
 use Rattle.core_rules.specs.Settling.{dropped, is_lost, is_unmarked, is_value, is_wanted, lost_marked, mark_lost, new_job, settle, settle_for, stays, target, targets, wanted}
 use Rattle.core_rules.specs.Steps.{Accepted, step}
@@ -86,6 +86,20 @@ is_referred s j h = record {
   queued = λ e. ltb-true 0 (refs s j.triple) (count_wanted (wants s) j.triple ∙ queued_by (is_wanted (wants s) j.triple) (is_some j.worker) (is_unmarked j.mark) (goes_on (op_of s j.triple.op)) h e);
   running = λ w e k. running_by (is_wanted (wants s) j.triple) (is_some j.worker) (is_unmarked j.mark) (goes_on (op_of s j.triple.op)) h (sym (count_wanted (wants s) j.triple) ∙ ap (nat_lt 0) e) k;
 }
+
+referred_by : (ws : List Triple) (s : CoreState) (j : Job) → accounted ws s j ≡ true → IsReferredBy ws s.program j
+referred_by ws s j h = record {
+  queued = queued_by (is_wanted ws j.triple) (is_some j.worker) (is_unmarked j.mark) (goes_on (op_of s j.triple.op)) h;
+  running = λ w e k. running_by (is_wanted ws j.triple) (is_some j.worker) (is_unmarked j.mark) (goes_on (op_of s j.triple.op)) h e k;
+}
+
+all_referred_by : (ws : List Triple) (s : CoreState) (js : List Job) → AllAccounted ws s js → AllByRecursion (IsReferredBy ws s.program) js
+all_referred_by ws s [] h = tt
+all_referred_by ws s (j ∷ js) h = (referred_by ws s j h.0, all_referred_by ws s js h.1)
+
+-- what is handed in as wanted accounts for the jobs after settling
+pub settling_refers : (ws : List Triple) (s s' : CoreState) → settle_for ws s ≡ Some s' → AllByRecursion (IsReferredBy ws s'.program) s'.jobs
+settling_refers ws s s' e = all_referred_by ws s' s'.jobs (accounted_settled ws s s' e)
 
 abbrev pub AllReferred : CoreState → List Job → Type 0
 AllReferred s js = AllByRecursion (IsReferred s) js

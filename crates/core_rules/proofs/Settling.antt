@@ -10,7 +10,7 @@ use Rattle.std.specs.FinMap.{nat_cmp-IsAntisymmetric, slice_cmp-IsAntisymmetric}
 use Rattle.std.specs.FinMap.Entries.{by_order}
 use Rattle.value_core.specs.declared.state.Triple.{Triple}
 use Rattle.core_rules.proofs.Entries.{world_entry}
-use Rattle.core_rules.proofs.Helpers.{find-push, find-push_new, then_some, triple_itself, triple_same, two_choices}
+use Rattle.core_rules.proofs.Helpers.{find-push, find-push_new, then_some, triple_itself, triple_same, second_choice}
 use Rattle.core_rules.specs.Core.{CoreState, is_latched, may_start, op_of, stage, unstarted, when_allowed}
 use Rattle.core_rules.specs.Entries.{count_of, entry_by, entry_in, fresh_of, job_of, outcome, row_of, wants, world}
 use Rattle.core_rules.specs.Settling.{create, create_all, created, dropped, in_order, is_lost, is_served, is_valid, is_wanted, lost_marked, mark_lost, new_job, settle, settle_for, stays, targets, triple_cmp, wanted, with_triple}
@@ -88,7 +88,7 @@ created_keeps s u t unserved = elim (job_of s.jobs t) as (λ o. job_of s.jobs t 
 
 -- a target is served, or gets the new job
 pub create_ways : (s s' : CoreState) (u : Triple) → create s u ≡ Some s' → (s ≡ s') ⊎ ((is_served s u ≡ false) × ((nat_lt s.next (2 ^ 62) ≡ true) × (created s u ≡ s')))
-create_ways s s' u e = two_choices (is_served s u) (nat_lt s.next (2 ^ 62)) s (created s u) s' e
+create_ways s s' u e = second_choice (is_served s u) (nat_lt s.next (2 ^ 62)) s (created s u) s' e
 
 -- what each created job keeps, creating all keeps; each is for a target with a property
 pub kept_by_creating_each : (P : CoreState → Type 0) (Q : Triple → Type 0) → ((s : CoreState) (u : Triple) → is_served s u ≡ false → nat_lt s.next (2 ^ 62) ≡ true → Q u → P s → P (created s u)) →

@@ -33,7 +33,7 @@ gone_numbers s n j r h is = elim (is_some j.worker) as (λ b. is_some j.worker �
   | false ↦ λ w. numbers-filter (is_not j.number) s.fair.tickets ∙ ap (filter (is_not j.number)) h ∙ sym (queued_without j.number s.jobs)
 ] refl
 
-ticketed_moved : (s t : CoreState) → Moved s t → Rising s.jobs → Ticketed s → Ticketed t
+pub ticketed_moved : (s t : CoreState) → Moved s t → Rising s.jobs → Ticketed s → Ticketed t
 ticketed_moved s t (Aside f jobs rows tickets) r h = ap numbers tickets ∙ h ∙ sym (ap queued jobs)
 ticketed_moved s t (Noted f n g same jobs rows tickets) r h = ap numbers tickets ∙ h ∙ sym (ap queued jobs ∙ queued_with n g s.jobs same)
 ticketed_moved s t (Gone f n j is jobs rows tickets) r h = ap numbers tickets ∙ gone_numbers s n j r h is ∙ sym (ap queued jobs)
@@ -44,32 +44,32 @@ ticketed_moved s t (Took w n j p is new) r h = subst Ticketed (sym new)
 
 -- ---- settling
 
-told_later : (q : Job → Bool) (j : Job) (js is : List Job) → JobsAbove j.number is → AllByRecursion (λ i. has_job js i.number ≡ q i) is →
+stays_later : (q : Job → Bool) (j : Job) (js is : List Job) → JobsAbove j.number is → AllByRecursion (λ i. has_job js i.number ≡ q i) is →
     (c : Bool) → AllByRecursion (λ i. has_job (cond c (j ∷ js) js) i.number ≡ q i) is
-told_later q j js [] a h c = tt
-told_later q j js (i ∷ is) a h c = (cond_both c (j ∷ js) js (λ ks. has_job ks i.number ≡ q i) (λ _. ap (λ b. b || has_job js i.number) (not_same_back j.number i.number a.0) ∙ h.0) (λ _. h.0), told_later q j js is a.1 h.1 c)
+stays_later q j js [] a h c = tt
+stays_later q j js (i ∷ is) a h c = (cond_both c (j ∷ js) js (λ ks. has_job ks i.number ≡ q i) (λ _. ap (λ b. b || has_job js i.number) (not_same_back j.number i.number a.0) ∙ h.0) (λ _. h.0), stays_later q j js is a.1 h.1 c)
 
-pub stays_told : (q : Job → Bool) (js : List Job) → Rising js → AllByRecursion (λ j. has_job (filter q js) j.number ≡ q j) js
-stays_told q [] r = tt
-stays_told q (j ∷ js) r = (
+pub stays_by_number : (q : Job → Bool) (js : List Job) → Rising js → AllByRecursion (λ j. has_job (filter q js) j.number ≡ q j) js
+stays_by_number q [] r = tt
+stays_by_number q (j ∷ js) r = (
   elim (q j) as (λ b. has_job (cond b (j ∷ filter q js) (filter q js)) j.number ≡ b) [
     | true ↦ ap (λ b. b || has_job (filter q js) j.number) (eq-eqb j.number j.number refl)
     | false ↦ has_none j.number (filter q js) (all_filter (λ (i : Job). j.number < i.number) q js r.0)
   ],
-  told_later q j (filter q js) js r.0 (stays_told q js r.1) (q j),
+  stays_later q j (filter q js) js r.0 (stays_by_number q js r.1) (q j),
 )
 
 pub ticketed_dropped : (ws : List Triple) (s : CoreState) → Rising s.jobs → Ticketed s → Ticketed (dropped ws s)
 ticketed_dropped ws s r h = numbers-filter (has_job (filter (stays ws) s.jobs)) s.fair.tickets
     ∙ ap (filter (has_job (filter (stays ws) s.jobs))) h
-    ∙ sym (queued_stay (has_job (filter (stays ws) s.jobs)) (stays ws) s.jobs (stays_told (stays ws) s.jobs r))
+    ∙ sym (queued_stay (has_job (filter (stays ws) s.jobs)) (stays ws) s.jobs (stays_by_number (stays ws) s.jobs r))
 
 pub queued_map : (f : Job → Job) (js : List Job) → SameWork f → queued (map f js) ≡ queued js
 queued_map f [] k = refl
 queued_map f (j ∷ js) k = queued_cons (f j) (map f js)
     ∙ (λ i. cond (not (is_some (k.worker j i))) (k.number j i ∷ queued_map f js k i) (queued_map f js k i)) ∙ sym (queued_cons j js)
 
-mark_same : (ws : List Triple) (s : CoreState) → SameWork (mark_lost ws s)
+pub mark_same : (ws : List Triple) (s : CoreState) → SameWork (mark_lost ws s)
 mark_same ws s = record {
   number = λ j. cond_both {A = Job} (is_lost ws s j) _ _ (λ k. k.number ≡ j.number) (λ _. refl) (λ _. refl);
   triple = λ j. cond_both {A = Job} (is_lost ws s j) _ _ (λ k. k.triple ≡ j.triple) (λ _. refl) (λ _. refl);

@@ -23,7 +23,7 @@ use Rattle.core_rules.proofs.FewEntries.{none_out, one_out}
 use Rattle.core_rules.proofs.OneBuild.{ticket, tickets}
 use Rattle.core_rules.proofs.ReplyParts.{sets, unchanged}
 use Rattle.core_rules.proofs.WorkedRuns.{answered, at, ends, keyed, nothing_stored, opens, quiet, states_are}
-use Rattle.core_rules.proofs.TwoOutputs.{done, of_key, order, other, pipeline, queued, row_left, running, same}
+use Rattle.core_rules.proofs.SharedKey.{done, of_key, order, other, pipeline, queued, row_left, running, same}
 
 -- ---- the opening: both nodes want the same, and there is one job
 

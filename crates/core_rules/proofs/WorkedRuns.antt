@@ -115,8 +115,8 @@ opens v threshold reading is settles =
 -- ---- the answer to an event
 
 -- the reply to a change, by what the nodes came to before, come to after the own change, and come to now
-abbrev pub reply_told : CoreState → Change → CoreState → FreshRun → FreshRun → FreshRun → List (ℕ × State) → Done
-reply_told s c after before own new changed = record {
+abbrev pub reply_found : CoreState → Change → CoreState → FreshRun → FreshRun → FreshRun → List (ℕ × State) → Done
+reply_found s c after before own new changed = record {
   note = c.note;
   version = s.version + 1;
   changed = changed;
@@ -126,7 +126,7 @@ reply_told s c after before own new changed = record {
 }
 
 replied : (s : CoreState) (c : Change) (after : CoreState) (before own new : FreshRun) (changed : List (ℕ × State)) → fresh_of s ≡ before → fresh_of c.state ≡ own → fresh_of after ≡ new →
-    changed_from 0 before.states new.states ≡ changed → reply_of s c after ≡ reply_told s c after before own new changed
+    changed_from 0 before.states new.states ≡ changed → reply_of s c after ≡ reply_found s c after before own new changed
 replied s c after before own new changed p q r differ =
     let d : changed_from 0 (states s) (states after) ≡ changed = (λ i. changed_from 0 (p i).states (r i).states) ∙ differ in
     λ i. record {
@@ -146,7 +146,7 @@ to v es c = record c { state = on v es c.state }
 pub answered : (v : Evaluated) (es : List (RowKey × Row)) (s : CoreState) (w : Evaluated) (fs : List (RowKey × Row)) (e : Event) {c : Change} {after : CoreState} {changed : List (ℕ × State)} →
     change (at_time (on v es s) e.at) e.what ≡ Makes c → c.state ≡ on w fs c.state → (s.version == 2 ^ 64 - 1) ≡ false →
     settled w fs c.state ≡ Some after → after ≡ on w fs after → changed_from 0 (found v es s).states (found w fs after).states ≡ changed →
-    step (on v es s) e ≡ Accepted (record after { version = s.version + 1 }) (reply_told (on v es s) (to w fs c) after (found v es s) (found w fs c.state) (found w fs after) changed)
+    step (on v es s) e ≡ Accepted (record after { version = s.version + 1 }) (reply_found (on v es s) (to w fs c) after (found v es s) (found w fs c.state) (found w fs after) changed)
 unfolding step
 answered v es s w fs e {c} {after} {changed} changes is below settles kept differ =
     ap (answer (on v es s)) (changes ∙ ap (λ z. Makes (record c { state = z })) is)

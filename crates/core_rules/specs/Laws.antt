@@ -8,6 +8,7 @@ use Rattle.value_core.specs.declared.state.Triple.{Triple}
 use Rattle.op_keys.specs.declared.level.Level.{Level}
 use Rattle.op_keys.specs.declared.order.Order.{Order}
 use Rattle.term_core.specs.declared.program.Program.{Program}
+use Rattle.term_core.specs.Limits.{IsWithinLimits}
 use Rattle.term_core.specs.World.{entry_of}
 use Rattle.sched_rows.specs.declared.row.Row.{Row}
 use Rattle.sched_rows.specs.RowKeys.{RowKey}
@@ -17,14 +18,16 @@ use Rattle.core_rules.specs.declared.jobs.Job.{Job}
 use Rattle.core_rules.specs.declared.events.Event.{Event}
 use Rattle.core_rules.specs.declared.log.Logged.{Logged}
 use Rattle.core_rules.specs.declared.notes.Note.TheVariants as note
+use Rattle.core_rules.specs.Bounds.{AreTicketsOwn, IsBounded}
 use Rattle.core_rules.specs.Core.{CoreState, op_of, goes_on, may_start, stage, is_queued, job_numbered}
 use Rattle.core_rules.specs.Entries.{entry_in, world, states, wants, refs}
-use Rattle.core_rules.specs.Openings.{Durable, IsDurable, start}
+use Rattle.core_rules.specs.Openings.{Durable, IsOpenable, start}
 use Rattle.core_rules.specs.Orders.{load, order_for, picked}
-use Rattle.core_rules.specs.Replays.{Replays}
+use Rattle.core_rules.specs.Replays.{Leads, Replays}
 use Rattle.core_rules.specs.declared.done.Done.{Done}
-use Rattle.core_rules.specs.Settling.{is_unmarked, live_on, settle}
+use Rattle.core_rules.specs.Settling.{is_unmarked, is_wanted, live_on, settle, settle_for}
 use Rattle.core_rules.specs.Steps.{Accepted, at_time, step}
+use Rattle.core_rules.specs.Stored.{durable, stored, with_delta}
 
 -- ---- evaluation
 
@@ -80,18 +83,20 @@ pub record IsReferred (s : CoreState) (j : Job) : Type 0 where
   pub queued : is_some j.worker ≡ false → 0 < refs s j.triple
   pub running : is_some j.worker ≡ true → refs s j.triple ≡ 0 → goes_on (op_of s j.triple.op) ≡ false → is_unmarked j.mark ≡ false
 
--- all of these
+-- all of these, and the bounds of numbers and lists
 pub record Invariant (s : CoreState) : Type 0 where
   pub one_each : OneEach s.jobs
   pub within : WithinCapacity s.program s.jobs
   pub numbered : Numbered s.now s.next s.rows s.jobs
   pub ticketed : Ticketed s
+  pub tickets_own : AreTicketsOwn s.program s.jobs s.fair.tickets
   pub referred : AllByRecursion (IsReferred s) s.jobs
+  pub bounded : IsBounded s
 
--- an opening gives a state that meets them, where each stored row's job is below the next number
+-- an opening gives a state that meets them, for a program within the limits and what may be opened
 abbrev pub InvariantAtOpening : Type 0
 InvariantAtOpening = (program : Program) (durable : Durable) (threshold : Option Level) (reading : ℕ) (s : CoreState) →
-    IsDurable durable → start program durable threshold reading ≡ Some s → Invariant s
+    IsWithinLimits program → IsOpenable durable → start program durable threshold reading ≡ Some s → Invariant s
 
 -- an accepted event keeps them, the moment doesn't fall, and the version rises by one
 abbrev pub InvariantThroughSteps : Type 0
@@ -99,9 +104,30 @@ InvariantThroughSteps = (s : CoreState) (e : Event) (s' : CoreState) (r : Done) 
     step s e ≡ Accepted s' r → Invariant s → Invariant s' × (s.now ≤ s'.now) × (s'.version ≡ s.version + 1)
 
 -- each state that is reached from such an opening meets them
-abbrev pub InvariantWhereReached : Type 0
-InvariantWhereReached = (program : Program) (durable : Durable) (threshold : Option Level) (reading : ℕ) (s : CoreState) (es : List Logged) (t : CoreState) →
-    IsDurable durable → start program durable threshold reading ≡ Some s → Replays s es t → Invariant t
+abbrev pub InvariantAfterReplays : Type 0
+InvariantAfterReplays = (program : Program) (durable : Durable) (threshold : Option Level) (reading : ℕ) (s : CoreState) (es : List Logged) (t : CoreState) →
+    IsWithinLimits program → IsOpenable durable → start program durable threshold reading ≡ Some s → Replays s es t → Invariant t
+
+-- accepted events keep them, and each raises the version by one
+abbrev pub InvariantAlongEvents : Type 0
+InvariantAlongEvents = (s : CoreState) (es : List Event) (t : CoreState) → Leads s es t → Invariant s → Invariant t × (t.version ≡ s.version + length es)
+
+-- ---- references
+
+-- a queued job is among the wanted triples; a running one that isn't has a mark, if its operation doesn't let it go on
+pub record IsReferredBy (ws : List Triple) (p : Program) (j : Job) : Type 0 where
+  pub queued : is_some j.worker ≡ false → is_wanted ws j.triple ≡ true
+  pub running : is_some j.worker ≡ true → is_wanted ws j.triple ≡ false → goes_on (slice_get p.ops j.triple.op) ≡ false → is_unmarked j.mark ≡ false
+
+-- each job is so after settling for the wanted triples that are handed in
+abbrev pub SettlingRefers : Type 0
+SettlingRefers = (ws : List Triple) (s s' : CoreState) → settle_for ws s ≡ Some s' → AllByRecursion (IsReferredBy ws s'.program) s'.jobs
+
+-- ---- what is stored
+
+-- the stored part of the state after an accepted event is the one before with the delta of the reply
+abbrev pub StepsStoreDeltas : Type 0
+StepsStoreDeltas = (s : CoreState) (e : Event) (s' : CoreState) (r : Done) → Invariant s → step s e ≡ Accepted s' r → stored (durable s') ≡ with_delta r.delta (stored (durable s))
 
 -- ---- starts
 
@@ -128,8 +154,8 @@ with_changes states [] = states
 with_changes states (c ∷ cs) = with_changes (slice_set states c.0 c.1) cs
 
 -- the changed nodes of a reply, put over the old states, give the new ones
-abbrev pub ChangesTell : Type 0
-ChangesTell = (s : CoreState) (e : Event) (s' : CoreState) (r : Done) → step s e ≡ Accepted s' r → with_changes (states s) r.changed ≡ states s'
+abbrev pub ChangesMakeStates : Type 0
+ChangesMakeStates = (s : CoreState) (e : Event) (s' : CoreState) (r : Done) → step s e ≡ Accepted s' r → with_changes (states s) r.changed ≡ states s'
 
 -- a replay has one end
 abbrev pub ReplaysAreOne : Type 0

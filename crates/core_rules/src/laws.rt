@@ -1,5 +1,5 @@
 //! Laws of the core. A law's function does nothing: its contract is the law.
-ghost use Rattle.core_rules.specs.Laws.{WorldIsEntries, SettlingKeepsStates, InvariantAtOpening, InvariantThroughSteps, InvariantWhereReached, StartsArePicks, ChangesTell, ReplaysAreOne};
+ghost use Rattle.core_rules.specs.Laws.{WorldIsEntries, SettlingKeepsStates, SettlingRefers, InvariantAtOpening, InvariantThroughSteps, InvariantAfterReplays, InvariantAlongEvents, StepsStoreDeltas, StartsArePicks, ChangesMakeStates, ReplaysAreOne};
 
 /// The world of a state has the state's entry for each triple.
 pub fn world_is_entries()
@@ -22,8 +22,23 @@ pub fn invariant_through_steps()
 {}
 
 /// Each state that an opening and a list of entries lead to meets the invariant.
-pub fn invariant_where_reached()
-    ensures { InvariantWhereReached }
+pub fn invariant_after_replays()
+    ensures { InvariantAfterReplays }
+{}
+
+/// Each list of accepted events keeps the invariant, and each event raises the version by one.
+pub fn invariant_along_events()
+    ensures { InvariantAlongEvents }
+{}
+
+/// After settling, each queued job is wanted, and each running one that isn't is marked or goes on.
+pub fn settling_refers()
+    ensures { SettlingRefers }
+{}
+
+/// What is stored of the state after an accepted event is what was stored before, with its delta.
+pub fn steps_store_deltas()
+    ensures { StepsStoreDeltas }
 {}
 
 /// Each job that is started was ready, permitted or confirmed, and was the pick.
@@ -32,8 +47,8 @@ pub fn starts_are_picks()
 {}
 
 /// The changed nodes of a reply, put over the old states, give the new ones.
-pub fn changes_tell()
-    ensures { ChangesTell }
+pub fn changes_make_states()
+    ensures { ChangesMakeStates }
 {}
 
 /// A replay has one end.
