@@ -6,8 +6,8 @@ use Rattle.std.proofs.lemmas.List.{length-take}
 use Rattle.term_core.specs.declared.program.Program.{Program}
 use Rattle.term_core.specs.Limits.{IsWithinLimits}
 use Rattle.term_core.specs.Soundness.{IsSound}
-use Rattle.pipe_text.specs.FileReading.{pipeline_of, read_of, told_of}
-use Rattle.pipe_text.specs.Standing.{StandsFor}
+use Rattle.pipe_text.specs.inside.FileReading.{pipeline_of, read_of, reported_of}
+use Rattle.pipe_text.specs.Files.{IsFileOf}
 use Rattle.pipe_text.specs.declared.fault.ReadFault.TheVariants as fault
 use Rattle.pipe_text.specs.declared.fault.LimitName.TheVariants as limit
 use Rattle.pipe_text.proofs.WholeFile.{standing_read}
@@ -26,17 +26,17 @@ use Rattle.current_cli.specs.Plans.{Task, wrong_words, no_file, refused_file, se
 
 -- ---- the two ways of saying it
 
-pipeline_ok : (bytes : List ℕ) (p : Program) → StandsFor bytes p → pipeline_of bytes ≡ Ok p
+pipeline_ok : (bytes : List ℕ) (p : Program) → IsFileOf bytes p → pipeline_of bytes ≡ Ok p
 unfolding pipeline_of
-pipeline_ok bytes p stands = ap told_of (standing_read bytes p stands)
+pipeline_ok bytes p stands = ap reported_of (standing_read bytes p stands)
 
 sound_task : (p : Program) (b : Bool) → is_built p ≡ b → task_of_sound Run p ≡ (if b then session_of p else refused_file (error_line (codes "not built")))
 sound_task p b e = ap (λ (c : Bool). if c then session_of p else refused_file (error_line (codes "not built"))) e
 
-of_sound : (command : Command) (content : List ℕ) (p : Program) → StandsFor content p → IsSound p → task_of command content ≡ task_of_sound command p
+of_sound : (command : Command) (content : List ℕ) (p : Program) → IsFileOf content p → IsSound p → task_of command content ≡ task_of_sound command p
 of_sound command content p stands sound = ap (task_of_read command) (pipeline_ok content p stands) ∙ ap (task_of_checked command p) (faultless p sound)
 
-of_run : (content : List ℕ) (p : Program) (b : Bool) → StandsFor content p → IsSound p → is_built p ≡ b → task_of Run content ≡ (if b then session_of p else refused_file (error_line (codes "not built")))
+of_run : (content : List ℕ) (p : Program) (b : Bool) → IsFileOf content p → IsSound p → is_built p ≡ b → task_of Run content ≡ (if b then session_of p else refused_file (error_line (codes "not built")))
 of_run content p b stands sound e = of_sound Run content p stands sound ∙ sound_task p b e
 
 as_run : (command : Command) (content : List ℕ) (task : Task) → command ≡ Run → task_of Run content ≡ task → task ≡ task_of command content
@@ -47,7 +47,7 @@ refusal_is command content why (unread f e) = sym (ap (task_of_read command) e)
 refusal_is command content why (unsound p f stands e) = sym (ap (task_of_read command) (pipeline_ok content p stands) ∙ ap (task_of_checked command p) e)
 refusal_is command content why (unbuilt p is stands sound e) = as_run command content (refused_file (error_line (codes "not built"))) is (of_run content p false stands sound e)
 
-report_is : (command : Command) (content text : List ℕ) (p : Program) → command ≡ Check → StandsFor content p → IsSound p → text ≡ report_text p (report_of p) → reported_file text ≡ task_of command content
+report_is : (command : Command) (content text : List ℕ) (p : Program) → command ≡ Check → IsFileOf content p → IsSound p → text ≡ report_text p (report_of p) → reported_file text ≡ task_of command content
 report_is command content text p is stands sound e = ap reported_file e ∙ sym (of_sound command content p stands sound ∙ ap (λ (c : Command). task_of_sound c p) is)
 
 pub asked_is : (command : Command) (content : List ℕ) (task : Task) → IsTaskOfContent command content task → task ≡ task_of command content

@@ -8,7 +8,7 @@ use Rattle.std.proofs.lemmas.List.{length-take, take_all}
 use Rattle.term_core.specs.declared.program.Program.{Program}
 use Rattle.io_ends.specs.Known.{content_now, IsReadOf}
 use Rattle.io_ends.specs.declared.ends.FileRead.TheVariants.{Found, Missing}
-use Rattle.pipe_text.specs.Standing.{StandsFor}
+use Rattle.pipe_text.specs.Files.{IsFileOf}
 use Rattle.current_cli.specs.declared.session.SessionEnd.{SessionEnd}
 use Rattle.current_cli.specs.declared.session.SessionEnd.TheVariants.{Quit, ReadFault, WriteFault, NoMemory}
 use Rattle.current_cli.specs.Marks.{Print, Did, Stopped}
@@ -104,8 +104,8 @@ read_whole content v limit is few = is ∙ take_all (limit + 1) content (let l =
 held_whole : (content v : List ℕ) (limit : ℕ) → v ≡ take (limit + 1) content → length content ≤ limit → v ≡ content
 held_whole content v limit is few = is ∙ take_all (limit + 1) content (omega (arith, few))
 
-read_standing : (content v : List ℕ) (p : Program) → v ≡ take (1048576 + 1) content → StandsFor content p → StandsFor v p
-read_standing content v p is stands = subst (λ (c : List ℕ). StandsFor c p) (sym (held_whole content v 1048576 is stands.few_bytes)) stands
+read_standing : (content v : List ℕ) (p : Program) → v ≡ take (1048576 + 1) content → IsFileOf content p → IsFileOf v p
+read_standing content v p is stands = subst (λ (c : List ℕ). IsFileOf c p) (sym (held_whole content v 1048576 is stands.few_bytes)) stands
 
 -- a content beyond the limit is refused, and so is the part of it that was read
 read_refusal : (command : Command) (content v why : List ℕ) → v ≡ take (1048576 + 1) content → IsRefused command content why → IsRefused command v why

@@ -3,8 +3,8 @@ use Rattle.std.specs.Prelude.{◌≡◌, ◌&&◌, ◌==◌, not, Bool, true, fa
 use Rattle.std.specs.List.{list_any}
 use Rattle.term_core.specs.declared.program.Program.{Program}
 use Rattle.term_core.specs.Soundness.{IsSound}
-use Rattle.pipe_text.specs.FileReading.{pipeline_of}
-use Rattle.pipe_text.specs.Standing.{StandsFor}
+use Rattle.pipe_text.specs.inside.FileReading.{pipeline_of}
+use Rattle.pipe_text.specs.Files.{IsFileOf}
 use Rattle.pipe_text.specs.declared.fault.ReadFault.{ReadFault}
 use Rattle.term_check.specs.Faults.{check_fault}
 use Rattle.term_check.specs.Reports.{report_of}
@@ -34,13 +34,13 @@ is_built p = length (report_of p).ops == 0 && not (list_any (λ d. is_some d.wat
 -- why a content is refused: its first fault, the first fault of the program that it stands for, or, where it is to be run, that the program can't be run yet
 pub data IsRefused (command : Command) (content : List ℕ) : List ℕ → Type 0 where
   unread : (f : ReadFault) → pipeline_of content ≡ Err f → IsRefused command content (read_text f)
-  unsound : (p : Program) (f : CheckFault) → StandsFor content p → check_fault p ≡ Some f → IsRefused command content (check_text p f)
-  unbuilt : (p : Program) → command ≡ Run → StandsFor content p → IsSound p → is_built p ≡ false → IsRefused command content (codes "not built")
+  unsound : (p : Program) (f : CheckFault) → IsFileOf content p → check_fault p ≡ Some f → IsRefused command content (check_text p f)
+  unbuilt : (p : Program) → command ≡ Run → IsFileOf content p → IsSound p → is_built p ≡ false → IsRefused command content (codes "not built")
 
 -- what a command asks for of a content: to run it, a session on the sound program that it stands for; to check it, the report of that program; else the line of its refusal
 abbrev pub IsTaskOfContent : Command → List ℕ → Task → Type 0
-IsTaskOfContent command content (session_of p) = (command ≡ Run) × StandsFor content p × IsSound p × (is_built p ≡ true)
-IsTaskOfContent command content (reported_file text) = (p : Program) × (command ≡ Check) × StandsFor content p × IsSound p × (text ≡ report_text p (report_of p))
+IsTaskOfContent command content (session_of p) = (command ≡ Run) × IsFileOf content p × IsSound p × (is_built p ≡ true)
+IsTaskOfContent command content (reported_file text) = (p : Program) × (command ≡ Check) × IsFileOf content p × IsSound p × (text ≡ report_text p (report_of p))
 IsTaskOfContent command content (refused_file line) = (why : List ℕ) × (line ≡ error_line why) × IsRefused command content why
 IsTaskOfContent command content no_file = ⊥
 IsTaskOfContent command content wrong_words = ⊥

@@ -4,7 +4,7 @@ ghost use Rattle.value_core.specs.Literals.{tokens_in};
 ghost use Rattle.current_cli.specs.Controls.{control_of, control};
 
 use std::alloc::{AllocError, Global};
-use value_core::{TokenAt, Stop, Text, Token, Value, literal_in, tokens_of};
+use value_core::{Stop, Text, Token, TokenAt, Value, literal_in, tokens_of};
 
 /// What a line asks for.
 #[derive(Drop)]

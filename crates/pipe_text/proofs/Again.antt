@@ -30,11 +30,11 @@ use Rattle.term_core.specs.declared.program.Term.{Term}
 use Rattle.value_core.specs.declared.value.Value.TheVariants as value
 use Rattle.pipe_text.specs.Grammar.{Limits, NameIs, is_within}
 use Rattle.pipe_text.specs.FileGrammar.{Declares, DeclareAll}
-use Rattle.pipe_text.specs.Standing.{file_limits}
-use Rattle.pipe_text.specs.Readers.{Reader, fault_of, give, seq, Choice, go, branch, peek, next_passes, mark_choice, mark_at, chosen, word_choice, word_at, only, keyword_at, is_keyword, if_keyword, is_string}
-use Rattle.pipe_text.specs.TermReading.{name_choice, name_at, text_choice, text_at, number_choice, number_at, room_choice, room_at, item_choice, item_at, command_word_at, with_text_read, texts_at, items_at, literal_choice, literal_at, Counted, open_choice, open_at, two_at, part_at, with_part, parts_at, body_at, term_at}
-use Rattle.pipe_text.specs.FileReading.{file_bounds, Seen, seen_in, declared_choice, declared_at, paired_choice, paired_at, any_number_choice, any_number_at, optional_text_at, flag_at, value_behind, value_at, where_at, level_at, manner_at, offset_at, period_behind, schedule_at, expiry_at, keeping_at, run_at, op_at, rest_at, decl_at, decls_at, all_at, version_choice, version_at, made, program_at, read_of, told}
-use Rattle.pipe_text.specs.Firsts.{Again, IsNamedAgain, IsRightAnswer}
+use Rattle.pipe_text.specs.Files.{file_limits}
+use Rattle.pipe_text.specs.inside.Readers.{Reader, fault_of, give, seq, Choice, go, branch, peek, next_passes, mark_choice, mark_at, chosen, word_choice, word_at, only, keyword_at, is_keyword, if_keyword, is_string}
+use Rattle.pipe_text.specs.inside.TermReading.{name_choice, name_at, text_choice, text_at, number_choice, number_at, room_choice, room_at, item_choice, item_at, command_word_at, with_text_read, texts_at, items_at, literal_choice, literal_at, Counted, open_choice, open_at, two_at, part_at, with_part, parts_at, body_at, term_at}
+use Rattle.pipe_text.specs.inside.FileReading.{file_bounds, Seen, seen_in, declared_choice, declared_at, paired_choice, paired_at, any_number_choice, any_number_at, optional_text_at, flag_at, value_after, value_at, placement_at, level_at, settings_at, offset_at, period_after, schedule_at, expiry_at, retention_at, run_at, op_at, rest_at, decl_at, decls_at, all_at, version_choice, version_at, made, program_at, read_of, reported}
+use Rattle.pipe_text.specs.FirstFault.{Again, IsNamedAgain, IsRightAnswer}
 use Rattle.pipe_text.proofs.Exactly.{tokens_in-append}
 use Rattle.pipe_text.proofs.Finding.{bind_ok}
 use Rattle.pipe_text.proofs.WordLaws.{decl_letters_are}
@@ -299,37 +299,37 @@ never_optional_text lim letters = never_if_keyword letters (seq (text_at lim) (�
 never_flag : (letters : List ℕ) → Never (flag_at letters)
 never_flag letters = never_if_keyword letters (give true) (give false) (never_give true) (never_give false)
 
-value_never : (lim : Limits) (w : ValueWord) → Never (value_behind lim w)
+value_never : (lim : Limits) (w : ValueWord) → Never (value_after lim w)
 value_never lim form.Text = never_seq (text_at lim) _ (never_text lim) (λ t. never_as (optional_text_at lim (codes "watch")) _ (never_optional_text lim (codes "watch")))
 value_never lim form.Num = never_as any_number_at _ never_any_number
 value_never lim form.List = never_seq (mark_at 91) _ (never_mark 91) (λ u. never_as (items_at lim) _ (never_items lim))
 
 never_value : (lim : Limits) → Never (value_at lim)
 unfolding value_at
-never_value lim = never_seq (word_at value_word) (λ w. value_behind lim w) (never_word value_word) (value_never lim)
+never_value lim = never_seq (word_at value_word) (λ w. value_after lim w) (never_word value_word) (value_never lim)
 
-never_where : (lim : Limits) → Never (where_at lim)
-unfolding where_at
-never_where lim = never_seq (keyword_at (codes "pool")) _ (never_keyword (codes "pool")) (λ u. never_seq (name_at lim) _ (never_name lim) (λ p. never_seq (keyword_at (codes "client")) _ (never_keyword (codes "client")) (λ v. never_seq (name_at lim) _ (never_name lim)
+never_placement : (lim : Limits) → Never (placement_at lim)
+unfolding placement_at
+never_placement lim = never_seq (keyword_at (codes "pool")) _ (never_keyword (codes "pool")) (λ u. never_seq (name_at lim) _ (never_name lim) (λ p. never_seq (keyword_at (codes "client")) _ (never_keyword (codes "client")) (λ v. never_seq (name_at lim) _ (never_name lim)
     (λ c. never_seq (keyword_at (codes "cost")) _ (never_keyword (codes "cost")) (λ w. never_seq (number_at lim limit.Cost) _ (never_number lim limit.Cost) (λ m. never_as (number_at lim limit.Cost) _ (never_number lim limit.Cost)))))))
 
 never_level : Never level_at
 never_level = never_if_keyword (codes "level") (word_at level_word) _ (never_word level_word) (never_give _)
 
-never_manner : (lim : Limits) → Never (manner_at lim)
-unfolding manner_at
-never_manner lim = never_seq (optional_text_at lim (codes "hint")) _ (never_optional_text lim (codes "hint")) (λ h. never_seq (flag_at (codes "urgent")) _ (never_flag (codes "urgent")) (λ u. never_as level_at _ never_level))
+never_settings : (lim : Limits) → Never (settings_at lim)
+unfolding settings_at
+never_settings lim = never_seq (optional_text_at lim (codes "hint")) _ (never_optional_text lim (codes "hint")) (λ h. never_seq (flag_at (codes "urgent")) _ (never_flag (codes "urgent")) (λ u. never_as level_at _ never_level))
 
 never_offset : (lim : Limits) → Never (offset_at lim)
 never_offset lim = never_seq (word_at side_word) _ (never_word side_word) (λ s. never_as (number_at lim limit.Offset) _ (never_number lim limit.Offset))
 
-period_never : (lim : Limits) (w : PeriodWord) → Never (period_behind lim w)
+period_never : (lim : Limits) (w : PeriodWord) → Never (period_after lim w)
 period_never lim period.Daily = never_seq (number_at lim limit.Minute) _ (never_number lim limit.Minute) (λ m. never_as (offset_at lim) _ (never_offset lim))
 period_never lim period.Monthly = never_seq (number_at lim limit.Day) _ (never_number lim limit.Day) (λ d. never_seq (number_at lim limit.Minute) _ (never_number lim limit.Minute) (λ m. never_as (offset_at lim) _ (never_offset lim)))
 
 never_schedule : (lim : Limits) → Never (schedule_at lim)
 unfolding schedule_at
-never_schedule lim = never_seq (word_at period_word) (λ w. period_behind lim w) (never_word period_word) (period_never lim)
+never_schedule lim = never_seq (word_at period_word) (λ w. period_after lim w) (never_word period_word) (period_never lim)
 
 never_cond : {A : Type 0} (b : Bool) (r q : Reader A) → Never r → Never q → Never (cond b r q)
 never_cond true r q x y = x
@@ -339,10 +339,10 @@ never_expiry : (lim : Limits) (v : ℕ) → Never (expiry_at lim v)
 unfolding expiry_at
 never_expiry lim v = never_if_keyword (codes "valid_for") _ _ (never_as (number_at lim limit.ValidFor) _ (never_number lim limit.ValidFor)) (never_cond (v == 2) _ _ (never_if_keyword (codes "schedule") (schedule_at lim) _ (never_schedule lim) (never_give _)) (never_give _))
 
-never_keeping : (lim : Limits) (v : ℕ) (w : OpWord) → Never (keeping_at lim v w)
-unfolding keeping_at
-never_keeping lim v op.Build = never_seq (expiry_at lim v) _ (never_expiry lim v) (λ e. never_as (flag_at (codes "latched")) _ (never_flag (codes "latched")))
-never_keeping lim v op.Output = never_give _
+never_retention : (lim : Limits) (v : ℕ) (w : OpWord) → Never (retention_at lim v w)
+unfolding retention_at
+never_retention lim v op.Build = never_seq (expiry_at lim v) _ (never_expiry lim v) (λ e. never_as (flag_at (codes "latched")) _ (never_flag (codes "latched")))
+never_retention lim v op.Output = never_give _
 
 never_run : (lim : Limits) → Never (run_at lim)
 unfolding run_at
@@ -350,7 +350,7 @@ never_run lim = never_seq (keyword_at (codes "run")) _ (never_keyword (codes "ru
 
 never_op : (lim : Limits) (v : ℕ) (n : List ℕ) (w : OpWord) → Never (op_at lim v n w)
 unfolding op_at
-never_op lim v n w = never_seq (where_at lim) _ (never_where lim) (λ p. never_seq (manner_at lim) _ (never_manner lim) (λ m. never_seq (keeping_at lim v w) _ (never_keeping lim v w) (λ k. never_seq (flag_at (codes "no_cancel")) _ (never_flag (codes "no_cancel")) (λ c. never_as (run_at lim) _ (never_run lim)))))
+never_op lim v n w = never_seq (placement_at lim) _ (never_placement lim) (λ p. never_seq (settings_at lim) _ (never_settings lim) (λ m. never_seq (retention_at lim v w) _ (never_retention lim v w) (λ k. never_seq (flag_at (codes "no_cancel")) _ (never_flag (codes "no_cancel")) (λ c. never_as (run_at lim) _ (never_run lim)))))
 
 -- ---- names of declarations
 
@@ -367,63 +367,63 @@ Same m offset n p known = (p ≡ offset) × (m ≡ n) × (known ≡ true)
 same_dup : {A : Type 0} (m n : List ℕ) (offset p : ℕ) → wrong {A = A} (Duplicate m offset) ≡ wrong {A = A} (Duplicate n p) → (p ≡ offset) × (m ≡ n)
 same_dup m n offset p e = (cc, cc)
 
-new_told : (room known : Bool) (g : ℕ → Fault) → ((x : ℕ) (n : List ℕ) (q : ℕ) → g x ≡ Duplicate n q → ⊥) → (m : List ℕ) (offset : ℕ) (s : Stop) (ts : List TokenAt) (n : List ℕ) (p : ℕ)
+new_repeats : (room known : Bool) (g : ℕ → Fault) → ((x : ℕ) (n : List ℕ) (q : ℕ) → g x ≡ Duplicate n q → ⊥) → (m : List ℕ) (offset : ℕ) (s : Stop) (ts : List TokenAt) (n : List ℕ) (p : ℕ)
     → Dup (go (cond room (cond known (Err (Duplicate m)) (Ok (give m))) (Err g)) offset s ts) n p → Same m offset n p known
-new_told true true g h m offset s ts n p e = let both = same_dup {A = List ℕ} m n offset p e in (both.0, both.1, refl)
-new_told true false g h m offset s ts n p e = absurd cc
-new_told false known g h m offset s ts n p e = absurd (h offset n p (err_is {A = List ℕ} (g offset) (Duplicate n p) e))
+new_repeats true true g h m offset s ts n p e = let both = same_dup {A = List ℕ} m n offset p e in (both.0, both.1, refl)
+new_repeats true false g h m offset s ts n p e = absurd cc
+new_repeats false known g h m offset s ts n p e = absurd (h offset n p (err_is {A = List ℕ} (g offset) (Duplicate n p) e))
 
-long_told : (room : Bool) (g l : ℕ → Fault) → ((x : ℕ) (n : List ℕ) (q : ℕ) → g x ≡ Duplicate n q → ⊥) → ((x : ℕ) (n : List ℕ) (q : ℕ) → l x ≡ Duplicate n q → ⊥) → (offset : ℕ) (s : Stop) (ts : List TokenAt) (n : List ℕ) (p : ℕ) → Dup {A = List ℕ} (go (cond room (Err l) (Err g)) offset s ts) n p → ⊥
-long_told true g l h k offset s ts n p e = k offset n p (err_is {A = List ℕ} (l offset) (Duplicate n p) e)
-long_told false g l h k offset s ts n p e = h offset n p (err_is {A = List ℕ} (g offset) (Duplicate n p) e)
+long_repeats : (room : Bool) (g l : ℕ → Fault) → ((x : ℕ) (n : List ℕ) (q : ℕ) → g x ≡ Duplicate n q → ⊥) → ((x : ℕ) (n : List ℕ) (q : ℕ) → l x ≡ Duplicate n q → ⊥) → (offset : ℕ) (s : Stop) (ts : List TokenAt) (n : List ℕ) (p : ℕ) → Dup {A = List ℕ} (go (cond room (Err l) (Err g)) offset s ts) n p → ⊥
+long_repeats true g l h k offset s ts n p e = k offset n p (err_is {A = List ℕ} (l offset) (Duplicate n p) e)
+long_repeats false g l h k offset s ts n p e = h offset n p (err_is {A = List ℕ} (g offset) (Duplicate n p) e)
 
-pair_told : (known : Bool) (m q : List ℕ) (offset : ℕ) (s : Stop) (ts : List TokenAt) (n : List ℕ) (p : ℕ) → Dup (go (cond known (Err (Duplicate m)) (Ok (give q))) offset s ts) n p → Same m offset n p known
-pair_told true m q offset s ts n p e = let both = same_dup {A = List ℕ} m n offset p e in (both.0, both.1, refl)
-pair_told false m q offset s ts n p e = absurd cc
+pair_repeats : (known : Bool) (m q : List ℕ) (offset : ℕ) (s : Stop) (ts : List TokenAt) (n : List ℕ) (p : ℕ) → Dup (go (cond known (Err (Duplicate m)) (Ok (give q))) offset s ts) n p → Same m offset n p known
+pair_repeats true m q offset s ts n p e = let both = same_dup {A = List ℕ} m n offset p e in (both.0, both.1, refl)
+pair_repeats false m q offset s ts n p e = absurd cc
 
-syntax_told : {A : Type 0} (offset : ℕ) (n : List ℕ) (p : ℕ) → Dup {A = A} (Err (Syntax offset)) n p → ⊥
-syntax_told offset n p e = cc
+syntax_repeats : {A : Type 0} (offset : ℕ) (n : List ℕ) (p : ℕ) → Dup {A = A} (Err (Syntax offset)) n p → ⊥
+syntax_repeats offset n p e = cc
 
 -- what a token tells that gives a name again
-abbrev ToldNew : DeclWord → Seen → Token → ℕ → List ℕ → ℕ → Type 0
-ToldNew w seen k offset n p = (p ≡ offset) × (k ≡ Name n) × (seen.named w n ≡ true)
+abbrev RepeatsNew : DeclWord → Seen → Token → ℕ → List ℕ → ℕ → Type 0
+RepeatsNew w seen k offset n p = (p ≡ offset) × (k ≡ Name n) × (seen.named w n ≡ true)
 
-new_of : (w : DeclWord) (seen : Seen) (k : Token) (offset : ℕ) (s : Stop) (ts : List TokenAt) (n : List ℕ) (p : ℕ) → Dup (go (declared_choice file_bounds w seen k) offset s ts) n p → ToldNew w seen k offset n p
+new_of : (w : DeclWord) (seen : Seen) (k : Token) (offset : ℕ) (s : Stop) (ts : List TokenAt) (n : List ℕ) (p : ℕ) → Dup (go (declared_choice file_bounds w seen k) offset s ts) n p → RepeatsNew w seen k offset n p
 new_of w seen (Name m) offset s ts n p e =
-    let t = new_told _ (seen.named w m) _ (never_limit _ _) m offset s ts n p e in
+    let t = new_repeats _ (seen.named w m) _ (never_limit _ _) m offset s ts n p e in
     (t.0, ap Name t.1, subst (λ (i : List ℕ). seen.named w i ≡ true) t.1 t.2)
-new_of w seen LongName offset s ts n p e = absurd (long_told _ _ _ (never_limit _ _) (never_limit limit.Name 64) offset s ts n p e)
-new_of w seen (Number m) offset s ts n p e = absurd (syntax_told {A = List ℕ} offset n p e)
-new_of w seen (Words m) offset s ts n p e = absurd (syntax_told {A = List ℕ} offset n p e)
-new_of w seen (Mark m) offset s ts n p e = absurd (syntax_told {A = List ℕ} offset n p e)
-new_of w seen LongText offset s ts n p e = absurd (syntax_told {A = List ℕ} offset n p e)
+new_of w seen LongName offset s ts n p e = absurd (long_repeats _ _ _ (never_limit _ _) (never_limit limit.Name 64) offset s ts n p e)
+new_of w seen (Number m) offset s ts n p e = absurd (syntax_repeats {A = List ℕ} offset n p e)
+new_of w seen (Words m) offset s ts n p e = absurd (syntax_repeats {A = List ℕ} offset n p e)
+new_of w seen (Mark m) offset s ts n p e = absurd (syntax_repeats {A = List ℕ} offset n p e)
+new_of w seen LongText offset s ts n p e = absurd (syntax_repeats {A = List ℕ} offset n p e)
 
 abbrev NewAgain : DeclWord → Seen → List TokenAt → List ℕ → ℕ → Type 0
-NewAgain w seen ts n p = (t : TokenAt) × (after : List TokenAt) × (ts ≡ t ∷ after) × ToldNew w seen t.token t.offset n p
+NewAgain w seen ts n p = (t : TokenAt) × (after : List TokenAt) × (ts ≡ t ∷ after) × RepeatsNew w seen t.token t.offset n p
 
 new_again : (w : DeclWord) (seen : Seen) (s : Stop) (ts : List TokenAt) (n : List ℕ) (p : ℕ) → Dup (declared_at file_bounds w seen s ts) n p → NewAgain w seen ts n p
 new_again w seen s [] n p e = absurd (never_stop s n p (err_is {A = List ℕ} (fault_of s) (Duplicate n p) e))
 new_again w seen s (t ∷ ts) n p e = (t, ts, refl, new_of w seen t.token t.offset s ts n p e)
 
-abbrev ToldPair : Seen → List ℕ → Token → ℕ → List ℕ → ℕ → Type 0
-ToldPair seen m k offset n p = (p ≡ offset) × (m ≡ n) × (q : List ℕ) × (k ≡ Name q) × (seen.paired n q ≡ true)
+abbrev RepeatsPair : Seen → List ℕ → Token → ℕ → List ℕ → ℕ → Type 0
+RepeatsPair seen m k offset n p = (p ≡ offset) × (m ≡ n) × (q : List ℕ) × (k ≡ Name q) × (seen.paired n q ≡ true)
 
-pair_of : (seen : Seen) (m : List ℕ) (k : Token) (offset : ℕ) (s : Stop) (ts : List TokenAt) (n : List ℕ) (p : ℕ) → Dup (go (paired_choice file_bounds seen m k) offset s ts) n p → ToldPair seen m k offset n p
-pair_of seen m (Name q) offset s ts n p e = let t = pair_told (seen.paired m q) m q offset s ts n p e in (t.0, t.1, q, refl, subst (λ (i : List ℕ). seen.paired i q ≡ true) t.1 t.2)
+pair_of : (seen : Seen) (m : List ℕ) (k : Token) (offset : ℕ) (s : Stop) (ts : List TokenAt) (n : List ℕ) (p : ℕ) → Dup (go (paired_choice file_bounds seen m k) offset s ts) n p → RepeatsPair seen m k offset n p
+pair_of seen m (Name q) offset s ts n p e = let t = pair_repeats (seen.paired m q) m q offset s ts n p e in (t.0, t.1, q, refl, subst (λ (i : List ℕ). seen.paired i q ≡ true) t.1 t.2)
 pair_of seen m LongName offset s ts n p e = absurd (never_limit limit.Name 64 offset n p (err_is {A = List ℕ} (Limit limit.Name 64 offset) (Duplicate n p) e))
-pair_of seen m (Number q) offset s ts n p e = absurd (syntax_told {A = List ℕ} offset n p e)
-pair_of seen m (Words q) offset s ts n p e = absurd (syntax_told {A = List ℕ} offset n p e)
-pair_of seen m (Mark q) offset s ts n p e = absurd (syntax_told {A = List ℕ} offset n p e)
-pair_of seen m LongText offset s ts n p e = absurd (syntax_told {A = List ℕ} offset n p e)
+pair_of seen m (Number q) offset s ts n p e = absurd (syntax_repeats {A = List ℕ} offset n p e)
+pair_of seen m (Words q) offset s ts n p e = absurd (syntax_repeats {A = List ℕ} offset n p e)
+pair_of seen m (Mark q) offset s ts n p e = absurd (syntax_repeats {A = List ℕ} offset n p e)
+pair_of seen m LongText offset s ts n p e = absurd (syntax_repeats {A = List ℕ} offset n p e)
 
 abbrev PairAgain : Seen → List ℕ → List TokenAt → List ℕ → ℕ → Type 0
-PairAgain seen m ts n p = (t : TokenAt) × (after : List TokenAt) × (ts ≡ t ∷ after) × ToldPair seen m t.token t.offset n p
+PairAgain seen m ts n p = (t : TokenAt) × (after : List TokenAt) × (ts ≡ t ∷ after) × RepeatsPair seen m t.token t.offset n p
 
 pair_again : (seen : Seen) (m : List ℕ) (s : Stop) (ts : List TokenAt) (n : List ℕ) (p : ℕ) → Dup (paired_at file_bounds seen m s ts) n p → PairAgain seen m ts n p
 pair_again seen m s [] n p e = absurd (never_stop s n p (err_is {A = List ℕ} (fault_of s) (Duplicate n p) e))
 pair_again seen m s (t ∷ ts) n p e = (t, ts, refl, pair_of seen m t.token t.offset s ts n p e)
 
--- behind its word a declaration gives a name again
+-- after its word a declaration gives a name again
 abbrev RestAgain : Seen → DeclWord → List TokenAt → List ℕ → ℕ → Type 0
 RestAgain seen w ts n p = (front : List TokenAt) × (t : TokenAt) × (after : List TokenAt) × (ts ≡ front ++ t ∷ after) × (p ≡ t.offset) × Tells seen w (tokens_in front) t.token n
 
@@ -472,15 +472,15 @@ rest_again seen decl.Node s ts n p e = named_rest seen decl.Node _ (λ m. never_
 abbrev DeclAgain : Seen → List TokenAt → List ℕ → ℕ → Type 0
 DeclAgain seen ts n p = (w : DeclWord) × (front : List TokenAt) × (t : TokenAt) × (after : List TokenAt) × (k2 : List Token) × (ts ≡ front ++ t ∷ after) × (p ≡ t.offset) × (tokens_in front ≡ Name (decl_letters w) ∷ k2) × Tells seen w k2 t.token n
 
-behind_word : (seen : Seen) (w : DeclWord) (ts front rest : List TokenAt) (n : List ℕ) (p : ℕ) → ts ≡ front ++ rest → tokens_in front ≡ Name (decl_letters w) ∷ [] → RestAgain seen w rest n p → DeclAgain seen ts n p
-behind_word seen w ts front rest n p parts word (mid, t, after, split, offset, tells) =
+following_word : (seen : Seen) (w : DeclWord) (ts front rest : List TokenAt) (n : List ℕ) (p : ℕ) → ts ≡ front ++ rest → tokens_in front ≡ Name (decl_letters w) ∷ [] → RestAgain seen w rest n p → DeclAgain seen ts n p
+following_word seen w ts front rest n p parts word (mid, t, after, split, offset, tells) =
     (w, front ++ mid, t, after, tokens_in mid, parts ∙ ap (λ (l : List TokenAt). front ++ l) split ∙ sym (append_assoc front mid (t ∷ after)), offset, tokens_in-append front mid ∙ (λ i. word i ++ tokens_in mid), tells)
 
 decl_again : (seen : Seen) (s : Stop) (ts : List TokenAt) (n : List ℕ) (p : ℕ) → Dup (decl_at file_bounds seen s ts) n p → DeclAgain seen ts n p
 unfolding decl_at
 decl_again seen s ts n p e = elim (bind_err (word_at decl_word s ts) (λ z. rest_at file_bounds seen z.0 s z.1) (Duplicate n p) e) [
   | inl h ↦ absurd ((never_word decl_word).never s ts n p h)
-  | inr (z, good, h) ↦ let f = (finds_letters decl_word decl_letters decl_letters_are).found s ts z.0 z.1 good in behind_word seen z.0 ts f.0 z.1 n p f.1 f.2 (rest_again seen z.0 s z.1 n p h)
+  | inr (z, good, h) ↦ let f = (finds_letters decl_word decl_letters decl_letters_are).found s ts z.0 z.1 good in following_word seen z.0 ts f.0 z.1 n p f.1 f.2 (rest_again seen z.0 s z.1 n p h)
 ]
 
 abbrev AllAgain : ℕ → List Declaration → List TokenAt → List ℕ → ℕ → Type 0
@@ -571,7 +571,7 @@ unfolding read_of
 named_again bytes n p e = file_again (lexed bytes).stop (lexed bytes).tokens n p (dup_of (nat_lt 1048576 (length bytes)) (Limit limit.File 1048576 0) (program_at file_bounds (lexed bytes).stop (lexed bytes).tokens) n p (never_limit limit.File 1048576 0 n p) e)
 
 -- what the caller is told is what it says
-pub right_answer : (bytes : List ℕ) (f : Fault) → read_of bytes ≡ Err f → IsRightAnswer bytes (told f)
+pub right_answer : (bytes : List ℕ) (f : Fault) → read_of bytes ≡ Err f → IsRightAnswer bytes (reported f)
 right_answer bytes (Lex p) e = right_fault bytes (Lex p) e
 right_answer bytes (Syntax p) e = right_fault bytes (Syntax p) e
 right_answer bytes (Limit what n p) e = right_fault bytes (Limit what n p) e

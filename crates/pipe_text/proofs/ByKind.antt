@@ -9,9 +9,10 @@ use Rattle.value_core.specs.declared.token.Token.{Token}
 use Rattle.term_core.specs.declared.program.Program.{Program}
 use Rattle.pipe_text.specs.declared.declaration.Declaration.{Declaration}
 use Rattle.pipe_text.specs.declared.declaration.Declaration.TheVariants.{Input, Pool, Client, Worker, Op, Node}
-use Rattle.pipe_text.specs.Standing.{input_in, pool_in, client_in, worker_in, op_in, node_in, program_of, total, same_name}
+use Rattle.pipe_text.specs.Files.{input_in, pool_in, client_in, worker_in, op_in, node_in, program_of, total, same_name}
 use Rattle.pipe_text.specs.Printing.{input_tokens, pool_tokens, client_tokens, worker_tokens, op_tokens, node_tokens}
 use Rattle.pipe_text.proofs.Joined.{total-append}
+use Rattle.value_core.proofs.Basics.{nat_is}
 
 -- ---- tokens_in
 
@@ -47,9 +48,6 @@ groups (suc k) n ds = only n ds ++ groups k (suc n) ds
 pub by_kind : List Declaration → List Declaration
 by_kind ds = groups 6 0 ds
 
-is_equal : (m n : ℕ) → (m == n) ≡ true → m ≡ n
-is_equal m n e = grind (arith, nat_tests)
-
 -- ---- what holds of each
 
 each_append : (P : Declaration → Type 0) (xs ys : List Declaration) → AllByRecursion P xs → AllByRecursion P ys → AllByRecursion P (xs ++ ys)
@@ -77,7 +75,7 @@ kinds_each P ds h = groups_each P 6 0 ds h
 only_rank : (n : ℕ) (ds : List Declaration) → AllByRecursion (λ d. rank d ≡ n) (only n ds)
 unfolding only
 only_rank n [] = tt
-only_rank n (d ∷ ds) = if_each (λ x. rank x ≡ n) (rank d == n) d (only n ds) (λ e. is_equal (rank d) n e) (only_rank n ds)
+only_rank n (d ∷ ds) = if_each (λ x. rank x ≡ n) (rank d == n) d (only n ds) (λ e. nat_is (rank d) n e) (only_rank n ds)
 
 weaker : (P Q : Declaration → Type 0) (ds : List Declaration) → ((d : Declaration) → P d → Q d) → AllByRecursion P ds → AllByRecursion Q ds
 weaker P Q [] f h = tt
@@ -276,7 +274,7 @@ module _ {X : Type 0} (pick : Declaration → Option X) (tokens : X → List Tok
 
   other_more : (n : ℕ) (d : Declaration) (ds : List Declaration) (b : Bool) → n ≢ at → (rank d == n) ≡ b → Picks pick tokens at d → filter_map pick ds ≡ [] → filter_map pick (cond b (d ∷ ds) ds) ≡ []
   unfolding Picks
-  other_more n d ds true apart is (inl (x, here, some, line)) e = absurd (apart (sym (is_equal (rank d) n is) ∙ is_equal (rank d) at here))
+  other_more n d ds true apart is (inl (x, here, some, line)) e = absurd (apart (sym (nat_is (rank d) n is) ∙ nat_is (rank d) at here))
   other_more n d ds true apart is (inr (other, none)) e = rw (none, e) refl
   other_more n d ds false apart is p e = e
 
@@ -290,8 +288,8 @@ module _ {X : Type 0} (pick : Declaration → Option X) (tokens : X → List Tok
   none_from zero n ds h = refl
   none_from (suc k) n ds h = filter_map-append pick (only n ds) (groups k (suc n) ds) ∙ (λ i. other n (λ e. omega (arith, e, h)) ds i ++ none_from k (suc n) ds (omega (arith, h)) i)
 
-  at_or_behind : (n : ℕ) → n ≤ at → (n ≡ at) ⊎ (n < at)
-  at_or_behind n h = grind (arith, h)
+  at_or_after : (n : ℕ) → n ≤ at → (n ≡ at) ⊎ (n < at)
+  at_or_after n h = grind (arith, h)
 
   all_next : (k n : ℕ) (ds : List Declaration) → (n ≡ at) ⊎ (n < at) → (n < at → filter_map pick (groups k (suc n) ds) ≡ filter_map pick ds) → filter_map pick (only n ds ++ groups k (suc n) ds) ≡ filter_map pick ds
   all_next k n ds (inl here) more =
@@ -301,7 +299,7 @@ module _ {X : Type 0} (pick : Declaration → Option X) (tokens : X → List Tok
   all_from : (k n : ℕ) (ds : List Declaration) → n ≤ at → at < n + k → filter_map pick (groups k n ds) ≡ filter_map pick ds
   unfolding groups
   all_from zero n ds h g = absurd (omega (arith, h, g))
-  all_from (suc k) n ds h g = all_next k n ds (at_or_behind n h) (λ later. all_from k (suc n) ds (omega (arith, later)) (omega (arith, g)))
+  all_from (suc k) n ds h g = all_next k n ds (at_or_after n h) (λ later. all_from k (suc n) ds (omega (arith, later)) (omega (arith, g)))
 
   lines_more : (d : Declaration) (ds es : List Declaration) → Picks pick tokens at d → map decl_tokens ds ≡ map tokens (filter_map pick es) → map decl_tokens (cond (rank d == at) (d ∷ ds) ds) ≡ map tokens (cons_option (pick d) (filter_map pick es))
   unfolding Picks

@@ -14,9 +14,9 @@ use Rattle.op_keys.specs.declared.level.Level.TheVariants as level
 use Rattle.pipe_text.specs.declared.declaration.Declaration.{Declaration}
 use Rattle.pipe_text.specs.declared.declaration.Declaration.TheVariants as declare
 use Rattle.pipe_text.specs.declared.declaration.InputValue.{InputValue}
-use Rattle.pipe_text.specs.declared.declaration.Keeping.{Keeping}
-use Rattle.pipe_text.specs.declared.declaration.Manner.{Manner}
-use Rattle.pipe_text.specs.declared.declaration.Where.{Where}
+use Rattle.pipe_text.specs.declared.declaration.Retention.{Retention}
+use Rattle.pipe_text.specs.declared.declaration.Settings.{Settings}
+use Rattle.pipe_text.specs.declared.declaration.Placement.{Placement}
 use Rattle.pipe_text.specs.declared.fault.LimitName.{LimitName}
 use Rattle.pipe_text.specs.declared.fault.LimitName.TheVariants as limit
 use Rattle.pipe_text.specs.declared.words.DeclWord.TheVariants as decl
@@ -25,7 +25,7 @@ use Rattle.pipe_text.specs.declared.words.OpWord.TheVariants as op
 use Rattle.pipe_text.specs.declared.words.SideWord.{SideWord}
 use Rattle.pipe_text.specs.declared.words.SideWord.TheVariants as side
 use Rattle.pipe_text.specs.Words.{decl_letters, op_letters}
-use Rattle.pipe_text.specs.Standing.{file_limits}
+use Rattle.pipe_text.specs.Files.{file_limits}
 use Rattle.pipe_text.specs.Grammar.{NameIs, NumberIs, Texts, list_of, one}
 use Rattle.pipe_text.specs.FileGrammar.{
   Optional,
@@ -37,11 +37,11 @@ use Rattle.pipe_text.specs.FileGrammar.{
   is_text_value,
   is_num_value,
   is_list_value,
-  WhereIs,
-  is_where,
+  PlacementIs,
+  is_placement,
   LevelIs,
-  MannerIs,
-  is_manner,
+  SettingsAre,
+  is_settings,
   offset_of,
   OffsetIs,
   ExpiryIs,
@@ -49,9 +49,9 @@ use Rattle.pipe_text.specs.FileGrammar.{
   is_after,
   is_daily,
   is_monthly,
-  KeepingIs,
-  is_build_keeping,
-  is_output_keeping,
+  RetentionIs,
+  is_build_retention,
+  is_output_retention,
   RunIs,
   is_run,
   is_output_word,
@@ -67,8 +67,9 @@ use Rattle.pipe_text.specs.FileGrammar.{
 }
 use Rattle.pipe_text.specs.Printing.{items_tokens, literal_tokens, term_tokens, value_layer_word, text_tokens, flag_tokens, level_tokens, offset_tokens, expiry_tokens, run_tokens, op_tokens}
 use Rattle.pipe_text.proofs.GoodTokens.{IsGood, each_left, each_right}
-use Rattle.pipe_text.proofs.TermTokens.{IsShort, AllShort, each_both, name_is, text_is, number_is, Are, items_are, words_tokens, num_tokens, list_tokens, behind_are, none_are, spelled_are, out_at}
+use Rattle.pipe_text.proofs.TermTokens.{IsShort, AllShort, each_both, name_is, text_is, number_is, Are, items_are, words_tokens, num_tokens, list_tokens, following_are, none_are, spelled_are}
 use Rattle.pipe_text.proofs.ByKind.{decl_tokens}
+use Rattle.value_core.proofs.Layers.{out_at}
 
 abbrev pub AllGood : List Token → Type 0
 AllGood = AllByRecursion IsGood
@@ -83,12 +84,12 @@ part_of : (P : List Token → Type 0) (ks ls : List Token) → P ks → AllGood 
 part_of P ks ls p g (same, short) = record { is = subst P same p; short = subst AllShort same short; good = subst AllGood same g }
 
 same_are : (k : Token) (ks ls : List Token) → IsShort k → Are ks ls → Are (k ∷ ks) (k ∷ ls)
-same_are k ks ls short are = behind_are k k ks ls (refl, short) are
+same_are k ks ls short are = following_are k k ks ls (refl, short) are
 
 -- ---- parts that are printed as they stand
 
 optional_are : (letters : List ℕ) (o : Option (List ℕ)) (ks : List Token) → Optional letters (SomeText file_limits) None o ks → Are ks (text_tokens letters o)
-optional_are letters o ks (is_given a more (t, k, is, parts, l)) = let word = text_is t k l in rw (is, parts) (same_are (Name letters) (k ∷ []) (Words t ∷ []) tt (behind_are k (Words t) [] [] word none_are))
+optional_are letters o ks (is_given a more (t, k, is, parts, l)) = let word = text_is t k l in rw (is, parts) (same_are (Name letters) (k ∷ []) (Words t ∷ []) tt (following_are k (Words t) [] [] word none_are))
 optional_are letters o ks is_absent = none_are
 
 flag_are : (letters : List ℕ) (b : Bool) (ks : List Token) → Flag letters b ks → Are ks (flag_tokens letters b)
@@ -97,17 +98,17 @@ flag_are letters b ks is_absent = none_are
 
 texts_are : (ts : List (List ℕ)) (ks : List Token) → Texts [] [] file_limits ts ks → Are ks (map Words ts)
 texts_are [] ks e = rw e none_are
-texts_are (t ∷ ts) ks (k, more, parts, is, rest) = rw parts (behind_are k (Words t) more (map Words ts) (text_is t k is) (texts_are ts more rest))
+texts_are (t ∷ ts) ks (k, more, parts, is, rest) = rw parts (following_are k (Words t) more (map Words ts) (text_is t k is) (texts_are ts more rest))
 
 run_are : (ws : List (List ℕ)) (ks : List Token) → RunIs file_limits ws ks → Are ks (run_tokens ws)
-run_are ws ks (is_run t ts k more l few rest) = same_are (Name (codes "run")) (k ∷ more) (Words t ∷ map Words ts) tt (behind_are k (Words t) more (map Words ts) (text_is t k l) (texts_are ts more rest))
+run_are ws ks (is_run t ts k more l few rest) = same_are (Name (codes "run")) (k ∷ more) (Words t ∷ map Words ts) tt (following_are k (Words t) more (map Words ts) (text_is t k l) (texts_are ts more rest))
 
-place_tokens : Where → List Token
+place_tokens : Placement → List Token
 place_tokens p = Name (codes "pool") ∷ Name p.pool ∷ Name (codes "client") ∷ Name p.client ∷ Name (codes "cost") ∷ Number p.full ∷ Number p.cached ∷ []
 
-where_are : (p : Where) (ks : List Token) → WhereIs file_limits p ks → Are ks (place_tokens p)
+placement_are : (p : Placement) (ks : List Token) → PlacementIs file_limits p ks → Are ks (place_tokens p)
 unfolding place_tokens
-where_are p ks (is_where q c m n kp kc km kn np nc nm nn) =
+placement_are p ks (is_placement q c m n kp kc km kn np nc nm nn) =
     let pool = name_is q kp np in
     let client = name_is c kc nc in
     let full = number_is limit.Cost m km nm in
@@ -145,14 +146,14 @@ level_part level.MostlyHarmless = record { is = is_given level.MostlyHarmless _ 
 level_part level.AboveAverage = record { is = is_given level.AboveAverage _ refl; short = (tt, (tt, tt)); good = (refl, (refl, tt)) }
 level_part level.Dangerous = record { is = is_given level.Dangerous _ refl; short = (tt, (tt, tt)); good = (refl, (refl, tt)) }
 
-manner_part : (m : Manner) (ks : List Token) → MannerIs file_limits m ks → AllGood ks → Part (MannerIs file_limits m) (text_tokens (codes "hint") m.hint ++ (flag_tokens (codes "urgent") m.urgent ++ level_tokens m.level))
-manner_part m ks (is_manner h u l kh ku kl oh ou ol) g =
-    let behind = each_right IsGood kh (ku ++ kl) g in
+settings_part : (m : Settings) (ks : List Token) → SettingsAre file_limits m ks → AllGood ks → Part (SettingsAre file_limits m) (text_tokens (codes "hint") m.hint ++ (flag_tokens (codes "urgent") m.urgent ++ level_tokens m.level))
+settings_part m ks (is_settings h u l kh ku kl oh ou ol) g =
+    let following = each_right IsGood kh (ku ++ kl) g in
     let hint = part_of (Optional (codes "hint") (SomeText file_limits) None h) kh (text_tokens (codes "hint") h) oh (each_left IsGood kh (ku ++ kl) g) (optional_are (codes "hint") h kh oh) in
-    let urgent = part_of (Flag (codes "urgent") u) ku (flag_tokens (codes "urgent") u) ou (each_left IsGood ku kl behind) (flag_are (codes "urgent") u ku ou) in
+    let urgent = part_of (Flag (codes "urgent") u) ku (flag_tokens (codes "urgent") u) ou (each_left IsGood ku kl following) (flag_are (codes "urgent") u ku ou) in
     let how = level_part l in
     record {
-      is = is_manner h u l (text_tokens (codes "hint") h) (flag_tokens (codes "urgent") u) (level_tokens l) hint.is urgent.is how.is;
+      is = is_settings h u l (text_tokens (codes "hint") h) (flag_tokens (codes "urgent") u) (level_tokens l) hint.is urgent.is how.is;
       short = each_both IsShort (text_tokens (codes "hint") h) _ hint.short (each_both IsShort (flag_tokens (codes "urgent") u) (level_tokens l) urgent.short how.short);
       good = each_both IsGood (text_tokens (codes "hint") h) _ hint.good (each_both IsGood (flag_tokens (codes "urgent") u) (level_tokens l) urgent.good how.good);
     }
@@ -185,16 +186,16 @@ expiry_part v e ks (is_monthly d m o j k more two y l x) g =
     let offset = offset_part o more x g.1.1.1.1 in
     record { is = is_monthly d m o (Number d) (Number m) (offset_tokens o) two day.0 minute.0 offset.is; short = (tt, (tt, (tt, (tt, offset.short)))); good = (refl, (refl, (day.1, (minute.1, offset.good)))) }
 
-keeping_part : (v : ℕ) (w : OpWord) (x : Keeping) (ks : List Token) → KeepingIs file_limits v w x ks → AllGood ks → Part (KeepingIs file_limits v w x) (expiry_tokens x.expiry ++ flag_tokens (codes "latched") x.latched)
-keeping_part v w x ks (is_build_keeping e l ke kl y f) g =
+retention_part : (v : ℕ) (w : OpWord) (x : Retention) (ks : List Token) → RetentionIs file_limits v w x ks → AllGood ks → Part (RetentionIs file_limits v w x) (expiry_tokens x.expiry ++ flag_tokens (codes "latched") x.latched)
+retention_part v w x ks (is_build_retention e l ke kl y f) g =
     let expiry = expiry_part v e ke y (each_left IsGood ke kl g) in
     let latched = part_of (Flag (codes "latched") l) kl (flag_tokens (codes "latched") l) f (each_right IsGood ke kl g) (flag_are (codes "latched") l kl f) in
     record {
-      is = is_build_keeping e l (expiry_tokens e) (flag_tokens (codes "latched") l) expiry.is latched.is;
+      is = is_build_retention e l (expiry_tokens e) (flag_tokens (codes "latched") l) expiry.is latched.is;
       short = each_both IsShort (expiry_tokens e) (flag_tokens (codes "latched") l) expiry.short latched.short;
       good = each_both IsGood (expiry_tokens e) (flag_tokens (codes "latched") l) expiry.good latched.good;
     }
-keeping_part v w x ks is_output_keeping g = record { is = is_output_keeping; short = tt; good = tt }
+retention_part v w x ks is_output_retention g = record { is = is_output_retention; short = tt; good = tt }
 
 -- ---- declarations
 
@@ -209,7 +210,7 @@ kind_word : (w : OpWord) → op_letters w ≡ (if is_output_word w then codes "o
 kind_word op.Build = refl
 kind_word op.Output = refl
 
-op_line : (n : List ℕ) (w : OpWord) (p : Where) (m : Manner) (x : Keeping) (c : Bool) (ws : List (List ℕ)) →
+op_line : (n : List ℕ) (w : OpWord) (p : Placement) (m : Settings) (x : Retention) (c : Bool) (ws : List (List ℕ)) →
     Name (decl_letters decl.Op) ∷ Name n ∷ Name (op_letters w) ∷ (place_tokens p ++ ((text_tokens (codes "hint") m.hint ++ (flag_tokens (codes "urgent") m.urgent ++ level_tokens m.level))
     ++ ((expiry_tokens x.expiry ++ flag_tokens (codes "latched") x.latched) ++ (flag_tokens (codes "no_cancel") c ++ run_tokens ws)))) ≡ op_tokens (op_of n w p m x c ws)
 unfolding place_tokens
@@ -217,8 +218,8 @@ op_line n w p m x c ws = λ i. Name (codes "op") ∷ Name n ∷ Name (kind_word 
     ++ middle (expiry_tokens x.expiry) (flag_tokens (codes "latched") x.latched) (flag_tokens (codes "no_cancel") c) (run_tokens ws) i))
 
 -- the declaration of an operation by its parts
-op_part : (v : ℕ) (n : List ℕ) (w : OpWord) (p : Where) (m : Manner) (x : Keeping) (c : Bool) (ws : List (List ℕ)) (kp km ke kc kr : List Token) → IsGood (Name (decl_letters decl.Op)) → IsGood (Name n) → IsGood (Name (op_letters w))
-    → Part (WhereIs file_limits p) kp → Part (MannerIs file_limits m) km → Part (KeepingIs file_limits v w x) ke → Part (Flag (codes "no_cancel") c) kc → Part (RunIs file_limits ws) kr
+op_part : (v : ℕ) (n : List ℕ) (w : OpWord) (p : Placement) (m : Settings) (x : Retention) (c : Bool) (ws : List (List ℕ)) (kp km ke kc kr : List Token) → IsGood (Name (decl_letters decl.Op)) → IsGood (Name n) → IsGood (Name (op_letters w))
+    → Part (PlacementIs file_limits p) kp → Part (SettingsAre file_limits m) km → Part (RetentionIs file_limits v w x) ke → Part (Flag (codes "no_cancel") c) kc → Part (RunIs file_limits ws) kr
     → Part (Declares file_limits 64 v (declare.Op (op_of n w p m x c ws))) (Name (decl_letters decl.Op) ∷ Name n ∷ Name (op_letters w) ∷ (kp ++ (km ++ (ke ++ (kc ++ kr)))))
 op_part v n w p m x c ws kp km ke kc kr g1 g2 g3 pp pm pe pc pr = record {
   is = is_op_decl n w p m x c ws (Name n) kp km ke kc kr refl pp.is pm.is pe.is pc.is pr.is;
@@ -226,23 +227,23 @@ op_part v n w p m x c ws kp km ke kc kr g1 g2 g3 pp pm pe pc pr = record {
   good = (g1, (g2, (g3, each_both IsGood kp (km ++ (ke ++ (kc ++ kr))) pp.good (each_both IsGood km (ke ++ (kc ++ kr)) pm.good (each_both IsGood ke (kc ++ kr) pe.good (each_both IsGood kc kr pc.good pr.good))))));
 }
 
-declared_op : (v : ℕ) (n : List ℕ) (w : OpWord) (p : Where) (m : Manner) (x : Keeping) (c : Bool) (ws : List (List ℕ)) (k : Token) (kp km ke kc kr : List Token) → NameIs file_limits n k → WhereIs file_limits p kp → MannerIs file_limits m km
-    → KeepingIs file_limits v w x ke → Flag (codes "no_cancel") c kc → RunIs file_limits ws kr → AllGood (Name (decl_letters decl.Op) ∷ k ∷ Name (op_letters w) ∷ (kp ++ (km ++ (ke ++ (kc ++ kr))))) → IsPrinted v (declare.Op (op_of n w p m x c ws))
+declared_op : (v : ℕ) (n : List ℕ) (w : OpWord) (p : Placement) (m : Settings) (x : Retention) (c : Bool) (ws : List (List ℕ)) (k : Token) (kp km ke kc kr : List Token) → NameIs file_limits n k → PlacementIs file_limits p kp → SettingsAre file_limits m km
+    → RetentionIs file_limits v w x ke → Flag (codes "no_cancel") c kc → RunIs file_limits ws kr → AllGood (Name (decl_letters decl.Op) ∷ k ∷ Name (op_letters w) ∷ (kp ++ (km ++ (ke ++ (kc ++ kr))))) → IsPrinted v (declare.Op (op_of n w p m x c ws))
 declared_op v n w p m x c ws k kp km ke kc kr name x1 x2 x3 x4 x5 (g1, (g2, (g3, g))) =
     let r1 = each_right IsGood kp (km ++ (ke ++ (kc ++ kr))) g in
     let r2 = each_right IsGood km (ke ++ (kc ++ kr)) r1 in
     let r3 = each_right IsGood ke (kc ++ kr) r2 in
-    let placement = part_of (WhereIs file_limits p) kp (place_tokens p) x1 (each_left IsGood kp (km ++ (ke ++ (kc ++ kr))) g) (where_are p kp x1) in
-    let manner = manner_part m km x2 (each_left IsGood km (ke ++ (kc ++ kr)) r1) in
-    let keeping = keeping_part v w x ke x3 (each_left IsGood ke (kc ++ kr) r2) in
+    let placement = part_of (PlacementIs file_limits p) kp (place_tokens p) x1 (each_left IsGood kp (km ++ (ke ++ (kc ++ kr))) g) (placement_are p kp x1) in
+    let settings = settings_part m km x2 (each_left IsGood km (ke ++ (kc ++ kr)) r1) in
+    let retention = retention_part v w x ke x3 (each_left IsGood ke (kc ++ kr) r2) in
     let no_cancel = part_of (Flag (codes "no_cancel") c) kc (flag_tokens (codes "no_cancel") c) x4 (each_left IsGood kc kr r3) (flag_are (codes "no_cancel") c kc x4) in
     let run = part_of (RunIs file_limits ws) kr (run_tokens ws) x5 (each_right IsGood kc kr r3) (run_are ws kr x5) in
-    subst (Part (Declares file_limits 64 v (declare.Op (op_of n w p m x c ws)))) (op_line n w p m x c ws) (op_part v n w p m x c ws _ _ _ _ _ g1 (subst IsGood (name_is n k name).0 g2) g3 placement manner keeping no_cancel run)
+    subst (Part (Declares file_limits 64 v (declare.Op (op_of n w p m x c ws)))) (op_line n w p m x c ws) (op_part v n w p m x c ws _ _ _ _ _ g1 (subst IsGood (name_is n k name).0 g2) g3 placement settings retention no_cancel run)
 
 pub declared : (v : ℕ) (d : Declaration) (ks : List Token) → Declares file_limits 64 v d ks → AllGood ks → IsPrinted v d
 declared v d ks (is_input_decl n x k more name y) g =
     part_of (Declares file_limits 64 v (declare.Input (record { name = n; value = x.value; watch = x.watch }))) _ _ (is_input_decl n x k more name y) g
-    (same_are (Name (codes "input")) (k ∷ more) (Name n ∷ value_tokens x) tt (behind_are k (Name n) more (value_tokens x) (name_is n k name) (value_are x more y)))
+    (same_are (Name (codes "input")) (k ∷ more) (Name n ∷ value_tokens x) tt (following_are k (Name n) more (value_tokens x) (name_is n k name) (value_are x more y)))
 declared v d ks (is_pool_decl n h k l name x) g =
     let first = name_is n k name in
     let hold = number_is limit.Hold h l x in
@@ -260,7 +261,7 @@ declared v d ks (is_worker_decl n p c k l j name pool x) g =
 declared v d ks (is_op_decl n w p m e c ws k kp km ke kc kr name x1 x2 x3 x4 x5) g = declared_op v n w p m e c ws k kp km ke kc kr name x1 x2 x3 x4 x5 g
 declared v d ks (is_node_decl n t m k more name x) g =
     part_of (Declares file_limits 64 v (declare.Node (record { name = n; term = t }) m)) _ _ (is_node_decl n t m k more name x) g
-    (same_are (Name (codes "node")) (k ∷ more) (Name n ∷ term_tokens t) tt (behind_are k (Name n) more (term_tokens t) (name_is n k name) (spelled_are 64 m (one t) more x)))
+    (same_are (Name (codes "node")) (k ∷ more) (Name n ∷ term_tokens t) tt (following_are k (Name n) more (term_tokens t) (name_is n k name) (spelled_are 64 m (one t) more x)))
 
 pub all_declared : (v : ℕ) (ds : List Declaration) (ks : List Token) → DeclareAll file_limits 64 v ds ks → AllGood ks → AllByRecursion (IsPrinted v) ds
 all_declared v [] ks e g = tt

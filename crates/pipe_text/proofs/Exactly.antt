@@ -1,5 +1,5 @@
 -- Readers that read what they should, whatever follows.
-use Rattle.std.proofs.Common.{◌≡◌, ℕ, Bool, true, false, List, [], ◌∷◌, ◌++◌, refl, ap, append_assoc}
+use Rattle.std.proofs.Common.{◌≡◌, ℕ, suc, Bool, true, false, List, [], ◌∷◌, ◌++◌, length, refl, ap, append_assoc}
 use Rattle.std.specs.Prelude.{◌==◌, Ok}
 use Rattle.value_core.specs.declared.token.Token.{Token}
 use Rattle.value_core.specs.declared.token.Token.TheVariants.{Mark, Name}
@@ -7,11 +7,15 @@ use Rattle.value_core.specs.declared.lexing.TokenAt.{TokenAt}
 use Rattle.value_core.specs.declared.lexing.Stop.{Stop}
 use Rattle.value_core.specs.Literals.{tokens_in}
 use Rattle.std.specs.Prelude.{Option, Some}
-use Rattle.pipe_text.specs.Readers.{Reader, give, seq, Choice, branch, peek, mark_at, mark_choice, word_at, word_choice, next_passes}
+use Rattle.pipe_text.specs.inside.Readers.{Reader, give, seq, Choice, branch, peek, mark_at, mark_choice, word_at, word_choice, next_passes}
 
 pub tokens_in-append : (xs ys : List TokenAt) → tokens_in (xs ++ ys) ≡ tokens_in xs ++ tokens_in ys
 tokens_in-append [] ys = refl
 tokens_in-append (x ∷ xs) ys = ap (λ (l : List Token). x.token ∷ l) (tokens_in-append xs ys)
+
+pub tokens_in-length : (ts : List TokenAt) → length (tokens_in ts) ≡ length ts
+tokens_in-length [] = refl
+tokens_in-length (t ∷ ts) = ap suc (tokens_in-length ts)
 
 abbrev pub Split : List TokenAt → List Token → List Token → Type 0
 Split ts k1 k2 = (f1 f2 : List TokenAt) × (ts ≡ f1 ++ f2) × (tokens_in f1 ≡ k1) × (tokens_in f2 ≡ k2)
@@ -64,7 +68,7 @@ raw_seq P Q r f a b k1 k2 then_q x y s front rest e p =
     let two : f a s (parts.1 ++ rest) ≡ Ok (b, rest) = y.reads s parts.1 rest parts.4 p in
     rw (parts.2, append_assoc parts.0 parts.1 rest, one) two
 
--- what the first asks of the rest must hold of the second's tokens and the rest behind them
+-- what the first asks of the rest must hold of the second's tokens and the rest after them
 pub reads_seq : {A B : Type 0} (P Q : List TokenAt → Type 0) (r : Reader A) (f : A → Reader B) (a : A) (b : B) (k1 k2 : List Token)
     → ((front rest : List TokenAt) → tokens_in front ≡ k2 → P rest → Q (front ++ rest)) → ReadsIf Q r a k1 → ReadsIf P (f a) b k2 → ReadsIf P (seq r f) b (k1 ++ k2)
 reads_seq P Q r f a b k1 k2 then_q x y = record { reads = raw_seq P Q r f a b k1 k2 then_q x y }

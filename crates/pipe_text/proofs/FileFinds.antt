@@ -17,9 +17,9 @@ use Rattle.op_keys.specs.declared.level.Level.TheVariants as level
 use Rattle.pipe_text.specs.declared.declaration.Declaration.{Declaration}
 use Rattle.pipe_text.specs.declared.declaration.Declaration.TheVariants as declare
 use Rattle.pipe_text.specs.declared.declaration.InputValue.{InputValue}
-use Rattle.pipe_text.specs.declared.declaration.Where.{Where}
-use Rattle.pipe_text.specs.declared.declaration.Manner.{Manner}
-use Rattle.pipe_text.specs.declared.declaration.Keeping.{Keeping}
+use Rattle.pipe_text.specs.declared.declaration.Placement.{Placement}
+use Rattle.pipe_text.specs.declared.declaration.Settings.{Settings}
+use Rattle.pipe_text.specs.declared.declaration.Retention.{Retention}
 use Rattle.pipe_text.specs.declared.fault.Fault.{Fault}
 use Rattle.pipe_text.specs.declared.fault.LimitName.TheVariants as limit
 use Rattle.pipe_text.specs.declared.words.DeclWord.{DeclWord}
@@ -43,11 +43,11 @@ use Rattle.pipe_text.specs.FileGrammar.{
   is_text_value,
   is_num_value,
   is_list_value,
-  WhereIs,
-  is_where,
+  PlacementIs,
+  is_placement,
   LevelIs,
-  MannerIs,
-  is_manner,
+  SettingsAre,
+  is_settings,
   offset_of,
   OffsetIs,
   ExpiryIs,
@@ -55,9 +55,9 @@ use Rattle.pipe_text.specs.FileGrammar.{
   is_after,
   is_daily,
   is_monthly,
-  KeepingIs,
-  is_build_keeping,
-  is_output_keeping,
+  RetentionIs,
+  is_build_retention,
+  is_output_retention,
   RunIs,
   is_run,
   op_of,
@@ -70,9 +70,9 @@ use Rattle.pipe_text.specs.FileGrammar.{
   is_node_decl,
   DeclareAll,
 }
-use Rattle.pipe_text.specs.Readers.{◌>>=◌, Reader, give, seq, unless_ended, mark_at, word_at, keyword_at, is_keyword, if_keyword}
-use Rattle.pipe_text.specs.TermReading.{Counted, name_at, text_at, number_at, command_word_at, texts_at, items_at, term_at}
-use Rattle.pipe_text.specs.FileReading.{
+use Rattle.pipe_text.specs.inside.Readers.{◌>>=◌, Reader, give, seq, unless_ended, mark_at, word_at, keyword_at, is_keyword, if_keyword}
+use Rattle.pipe_text.specs.inside.TermReading.{Counted, name_at, text_at, number_at, command_word_at, texts_at, items_at, term_at}
+use Rattle.pipe_text.specs.inside.FileReading.{
   Bounds,
   Seen,
   seen_in,
@@ -84,27 +84,28 @@ use Rattle.pipe_text.specs.FileReading.{
   any_number_at,
   optional_text_at,
   flag_at,
-  value_behind,
+  value_after,
   value_at,
-  where_at,
+  placement_at,
   level_at,
-  manner_at,
+  settings_at,
   offset_at,
-  period_behind,
+  period_after,
   schedule_at,
   expiry_at,
-  keeping_at,
+  retention_at,
   run_at,
   op_at,
   rest_at,
   decl_at,
   decls_at,
 }
-use Rattle.pipe_text.proofs.Exactly.{tokens_in-append}
-use Rattle.pipe_text.proofs.Finding.{Finds, bind_ok, ok_is, finds_same, Nothing, finds_give, Then, finds_seq, Dressed, finds_as, FindsFor, for_if, finds_by, finds_one, Either, finds_peek, is_equal, Single, IsMark, finds_mark}
+use Rattle.pipe_text.proofs.Exactly.{tokens_in-append, tokens_in-length}
+use Rattle.pipe_text.proofs.Finding.{Finds, bind_ok, ok_is, finds_same, Nothing, finds_give, Then, finds_seq, Dressed, finds_as, FindsFor, for_if, finds_by, finds_one, Either, finds_peek, Single, IsMark, finds_mark}
 use Rattle.pipe_text.proofs.WordLaws.{decl_letters_are, value_letters_are, op_letters_are, period_letters_are, side_letters_are, level_letters_are}
 use Rattle.pipe_text.proofs.TermFinds.{Lettered, finds_letters, finds_keyword, OneName, finds_name, OneText, finds_text, OneNumber, finds_number, either, TextsLang, finds_texts, finds_command_word, finds_items, TermLang, finds_term}
 use Rattle.pipe_text.proofs.Joined.{Fits, Sound, sound_more}
+use Rattle.value_core.proofs.Basics.{nat_is, nat_lt_is}
 
 -- the letters of a keyword
 abbrev pub Keyword : List ℕ → Unit {0} → List Token → Type 0
@@ -112,22 +113,22 @@ Keyword letters = Lettered {W = Unit {0}} (λ u. letters)
 
 -- ---- parts that may be left out
 
-abbrev pub Behind : {A : Type 0} → List ℕ → (A → List Token → Type 0) → A → List Token → Type 0
-Behind letters L a ks = (more : List Token) × (ks ≡ Name letters ∷ more) × L a more
+abbrev pub WordThen : {A : Type 0} → List ℕ → (A → List Token → Type 0) → A → List Token → Type 0
+WordThen letters L a ks = (more : List Token) × (ks ≡ Name letters ∷ more) × L a more
 
-pub behind_of : {A : Type 0} (letters : List ℕ) (L : A → List Token → Type 0) (a : A) (ks : List Token) → Then (Keyword letters) (λ u. L) a ks → Behind letters L a ks
-behind_of letters L a ks (u, k1, k2, parts, is, l) = (k2, rw (parts, is) refl, l)
+pub following_of : {A : Type 0} (letters : List ℕ) (L : A → List Token → Type 0) (a : A) (ks : List Token) → Then (Keyword letters) (λ u. L) a ks → WordThen letters L a ks
+following_of letters L a ks (u, k1, k2, parts, is, l) = (k2, rw (parts, is) refl, l)
 
-pub finds_if_keyword : {A : Type 0} (letters : List ℕ) (r q : Reader A) (L M : A → List Token → Type 0) → Finds r L → Finds q M → Finds (if_keyword letters r q) (Either (Behind letters L) M)
-finds_if_keyword letters r q L M x y = finds_peek (is_keyword letters) (seq (keyword_at letters) (λ u. r)) q (Behind letters L) M
-    (finds_same _ (Then (Keyword letters) (λ u. L)) (Behind letters L) (finds_seq (keyword_at letters) (λ u. r) (Keyword letters) (λ u. L) (finds_keyword letters) (λ u. x)) (behind_of letters L)) y
+pub finds_if_keyword : {A : Type 0} (letters : List ℕ) (r q : Reader A) (L M : A → List Token → Type 0) → Finds r L → Finds q M → Finds (if_keyword letters r q) (Either (WordThen letters L) M)
+finds_if_keyword letters r q L M x y = finds_peek (is_keyword letters) (seq (keyword_at letters) (λ u. r)) q (WordThen letters L) M
+    (finds_same _ (Then (Keyword letters) (λ u. L)) (WordThen letters L) (finds_seq (keyword_at letters) (λ u. r) (Keyword letters) (λ u. L) (finds_keyword letters) (λ u. x)) (following_of letters L)) y
 
-pub optional_of : {A : Type 0} (letters : List ℕ) (L : A → List Token → Type 0) (d a : A) (ks : List Token) → Either (Behind letters L) (Nothing d) a ks → Optional letters L d a ks
+pub optional_of : {A : Type 0} (letters : List ℕ) (L : A → List Token → Type 0) (d a : A) (ks : List Token) → Either (WordThen letters L) (Nothing d) a ks → Optional letters L d a ks
 optional_of letters L d a ks (inl (more, is, l)) = rw is (is_given a more l)
 optional_of letters L d a ks (inr (is, none)) = rw (is, none) is_absent
 
 pub finds_optional : {A : Type 0} (letters : List ℕ) (r : Reader A) (L : A → List Token → Type 0) (d : A) → Finds r L → Finds (if_keyword letters r (give d)) (Optional letters L d)
-finds_optional letters r L d x = finds_same _ (Either (Behind letters L) (Nothing d)) (Optional letters L d) (finds_if_keyword letters r (give d) L (Nothing d) x (finds_give d)) (optional_of letters L d)
+finds_optional letters r L d x = finds_same _ (Either (WordThen letters L) (Nothing d)) (Optional letters L d) (finds_if_keyword letters r (give d) L (Nothing d) x (finds_give d)) (optional_of letters L d)
 
 pub some_text_of : (lim : Limits) (o : Option (List ℕ)) (ks : List Token) → Dressed (λ t. Some t) (OneText lim) o ks → SomeText lim o ks
 some_text_of lim o ks (t, is, (k, parts, l)) = (t, k, is, parts, l)
@@ -166,44 +167,44 @@ num_value_of lim v ks (n, is, item) = rw (is, item) (is_num_value n)
 pub list_value_of : (lim : Limits) (v : InputValue) (ks : List Token) → Then (Single (IsMark 91)) (λ u. Dressed (λ ts. record { value = list_of ts; watch = None }) (Items lim)) v ks → ValueRest lim form.List v ks
 list_value_of lim v ks (u, k1, k2, parts, (k, item, mark), (ts, is, items)) = rw (is, parts, item, mark) (is_list_value ts k2 items)
 
-finds_value_behind : (lim : Limits) (w : ValueWord) → Finds (value_behind lim w) (ValueRest lim w)
-finds_value_behind lim form.Text = finds_same _ _ (ValueRest lim form.Text) (finds_seq (text_at lim) _ (OneText lim) _ (finds_text lim) (λ t. finds_as (optional_text_at lim (codes "watch")) _ _ (finds_optional_text lim (codes "watch")))) (text_value_of lim)
-finds_value_behind lim form.Num = finds_same _ _ (ValueRest lim form.Num) (finds_as any_number_at _ AnyNumber finds_any_number) (num_value_of lim)
-finds_value_behind lim form.List = finds_same _ _ (ValueRest lim form.List) (finds_seq (mark_at 91) _ (Single (IsMark 91)) _ (finds_mark 91) (λ u. finds_as (items_at lim) _ (Items lim) (finds_items lim))) (list_value_of lim)
+finds_value_after : (lim : Limits) (w : ValueWord) → Finds (value_after lim w) (ValueRest lim w)
+finds_value_after lim form.Text = finds_same _ _ (ValueRest lim form.Text) (finds_seq (text_at lim) _ (OneText lim) _ (finds_text lim) (λ t. finds_as (optional_text_at lim (codes "watch")) _ _ (finds_optional_text lim (codes "watch")))) (text_value_of lim)
+finds_value_after lim form.Num = finds_same _ _ (ValueRest lim form.Num) (finds_as any_number_at _ AnyNumber finds_any_number) (num_value_of lim)
+finds_value_after lim form.List = finds_same _ _ (ValueRest lim form.List) (finds_seq (mark_at 91) _ (Single (IsMark 91)) _ (finds_mark 91) (λ u. finds_as (items_at lim) _ (Items lim) (finds_items lim))) (list_value_of lim)
 
 pub value_of : (lim : Limits) (v : InputValue) (ks : List Token) → Then (Lettered value_letters) (ValueRest lim) v ks → ValueIs lim v ks
 value_of lim v ks (w, k1, k2, parts, is, l) = rw (parts, is) l
 
 finds_value : (lim : Limits) → Finds (value_at lim) (ValueIs lim)
 unfolding value_at
-finds_value lim = finds_same _ (Then (Lettered value_letters) (ValueRest lim)) (ValueIs lim) (finds_seq (word_at value_word) (λ w. value_behind lim w) (Lettered value_letters) (ValueRest lim) (finds_letters value_word value_letters value_letters_are) (finds_value_behind lim)) (value_of lim)
+finds_value lim = finds_same _ (Then (Lettered value_letters) (ValueRest lim)) (ValueIs lim) (finds_seq (word_at value_word) (λ w. value_after lim w) (Lettered value_letters) (ValueRest lim) (finds_letters value_word value_letters value_letters_are) (finds_value_after lim)) (value_of lim)
 
 -- ---- an operation
 
-abbrev pub WhereChain : Limits → Where → List Token → Type 0
-WhereChain lim = Then (Keyword (codes "pool")) (λ u. Then (OneName lim) (λ p. Then (Keyword (codes "client")) (λ v. Then (OneName lim) (λ c. Then (Keyword (codes "cost")) (λ w.
+abbrev pub PlacementChain : Limits → Placement → List Token → Type 0
+PlacementChain lim = Then (Keyword (codes "pool")) (λ u. Then (OneName lim) (λ p. Then (Keyword (codes "client")) (λ v. Then (OneName lim) (λ c. Then (Keyword (codes "cost")) (λ w.
     Then (OneNumber lim limit.Cost) (λ m. Dressed (λ n. record { pool = p; client = c; full = m; cached = n }) (OneNumber lim limit.Cost)))))))
 
-pub where_of : (lim : Limits) (x : Where) (ks : List Token) → WhereChain lim x ks → WhereIs lim x ks
-where_of lim x ks (u, a1, a2, e1, f1, (p, b1, b2, e2, (kp, f2, np), (v, c1, c2, e3, f3, (c, d1, d2, e4, (kc, f4, nc), (w, g1, g2, e5, f5, (m, h1, h2, e6, (km, f6, nm), (n, is, (kn, f7, nn)))))))) =
-    rw (is, e1, f1, e2, f2, e3, f3, e4, f4, e5, f5, e6, f6, f7) (is_where p c m n kp kc km kn np nc nm nn)
+pub placement_of : (lim : Limits) (x : Placement) (ks : List Token) → PlacementChain lim x ks → PlacementIs lim x ks
+placement_of lim x ks (u, a1, a2, e1, f1, (p, b1, b2, e2, (kp, f2, np), (v, c1, c2, e3, f3, (c, d1, d2, e4, (kc, f4, nc), (w, g1, g2, e5, f5, (m, h1, h2, e6, (km, f6, nm), (n, is, (kn, f7, nn)))))))) =
+    rw (is, e1, f1, e2, f2, e3, f3, e4, f4, e5, f5, e6, f6, f7) (is_placement p c m n kp kc km kn np nc nm nn)
 
-finds_where : (lim : Limits) → Finds (where_at lim) (WhereIs lim)
-unfolding where_at
-finds_where lim = finds_same _ (WhereChain lim) (WhereIs lim)
+finds_placement : (lim : Limits) → Finds (placement_at lim) (PlacementIs lim)
+unfolding placement_at
+finds_placement lim = finds_same _ (PlacementChain lim) (PlacementIs lim)
     (finds_seq (keyword_at (codes "pool")) _ _ _ (finds_keyword (codes "pool")) (λ u. finds_seq (name_at lim) _ _ _ (finds_name lim) (λ p. finds_seq (keyword_at (codes "client")) _ _ _ (finds_keyword (codes "client"))
     (λ v. finds_seq (name_at lim) _ _ _ (finds_name lim) (λ c. finds_seq (keyword_at (codes "cost")) _ _ _ (finds_keyword (codes "cost"))
-    (λ w. finds_seq (number_at lim limit.Cost) _ _ _ (finds_number lim limit.Cost) (λ m. finds_as (number_at lim limit.Cost) _ _ (finds_number lim limit.Cost)))))))) (where_of lim)
+    (λ w. finds_seq (number_at lim limit.Cost) _ _ _ (finds_number lim limit.Cost) (λ m. finds_as (number_at lim limit.Cost) _ _ (finds_number lim limit.Cost)))))))) (placement_of lim)
 
-pub manner_of : (lim : Limits) (x : Manner) (ks : List Token) → Then (Optional (codes "hint") (SomeText lim) None) (λ h. Then (Flag (codes "urgent")) (λ u. Dressed (λ l. record { hint = h; urgent = u; level = l }) (Optional (codes "level") LevelIs level.Average))) x ks → MannerIs lim x ks
-manner_of lim x ks (h, a1, a2, e1, o1, (u, b1, b2, e2, o2, (l, is, o3))) = rw (is, e1, e2) (is_manner h u l a1 b1 b2 o1 o2 o3)
+pub settings_of : (lim : Limits) (x : Settings) (ks : List Token) → Then (Optional (codes "hint") (SomeText lim) None) (λ h. Then (Flag (codes "urgent")) (λ u. Dressed (λ l. record { hint = h; urgent = u; level = l }) (Optional (codes "level") LevelIs level.Average))) x ks → SettingsAre lim x ks
+settings_of lim x ks (h, a1, a2, e1, o1, (u, b1, b2, e2, o2, (l, is, o3))) = rw (is, e1, e2) (is_settings h u l a1 b1 b2 o1 o2 o3)
 
 finds_level : Finds level_at (Optional (codes "level") LevelIs level.Average)
 finds_level = finds_optional (codes "level") (word_at level_word) LevelIs level.Average (finds_letters level_word level_letters level_letters_are)
 
-finds_manner : (lim : Limits) → Finds (manner_at lim) (MannerIs lim)
-unfolding manner_at
-finds_manner lim = finds_same _ _ (MannerIs lim) (finds_seq (optional_text_at lim (codes "hint")) _ _ _ (finds_optional_text lim (codes "hint")) (λ h. finds_seq (flag_at (codes "urgent")) _ _ _ (finds_flag (codes "urgent")) (λ u. finds_as level_at _ _ finds_level))) (manner_of lim)
+finds_settings : (lim : Limits) → Finds (settings_at lim) (SettingsAre lim)
+unfolding settings_at
+finds_settings lim = finds_same _ _ (SettingsAre lim) (finds_seq (optional_text_at lim (codes "hint")) _ _ _ (finds_optional_text lim (codes "hint")) (λ h. finds_seq (flag_at (codes "urgent")) _ _ _ (finds_flag (codes "urgent")) (λ u. finds_as level_at _ _ finds_level))) (settings_of lim)
 
 pub offset_is : (lim : Limits) (o : ℤ) (ks : List Token) → Then (Lettered side_letters) (λ s. Dressed (offset_of s) (OneNumber lim limit.Offset)) o ks → OffsetIs lim o ks
 offset_is lim o ks (s, k1, k2, parts, letters, (n, is, (k, item, l))) = (s, n, k, is, rw (parts, letters, item) refl, l)
@@ -221,7 +222,7 @@ daily_of lim v two e ks (m, k1, k2, parts, (k, item, l), (o, is, x)) = rw (is, p
 pub monthly_of : (lim : Limits) (v : ℕ) → v ≡ 2 → (e : Expiry) (ks : List Token) → Then (OneNumber lim limit.Day) (λ d. Then (OneNumber lim limit.Minute) (λ m. Dressed (λ o. Monthly d m o) (OffsetIs lim))) e ks → PeriodLang lim v period.Monthly e ks
 monthly_of lim v two e ks (d, a1, a2, e1, (j, f1, y), (m, k1, k2, parts, (k, item, l), (o, is, x))) = rw (is, e1, f1, parts, item) (is_monthly d m o j k k2 two y l x)
 
-finds_period : (lim : Limits) (v : ℕ) → v ≡ 2 → (w : PeriodWord) → Finds (period_behind lim w) (PeriodLang lim v w)
+finds_period : (lim : Limits) (v : ℕ) → v ≡ 2 → (w : PeriodWord) → Finds (period_after lim w) (PeriodLang lim v w)
 finds_period lim v two period.Daily = finds_same _ _ (PeriodLang lim v period.Daily) (finds_seq (number_at lim limit.Minute) _ _ _ (finds_number lim limit.Minute) (λ m. finds_as (offset_at lim) _ _ (finds_offset lim))) (daily_of lim v two)
 finds_period lim v two period.Monthly = finds_same _ _ (PeriodLang lim v period.Monthly) (finds_seq (number_at lim limit.Day) _ _ _ (finds_number lim limit.Day) (λ d. finds_seq (number_at lim limit.Minute) _ _ _ (finds_number lim limit.Minute) (λ m. finds_as (offset_at lim) _ _ (finds_offset lim)))) (monthly_of lim v two)
 
@@ -233,16 +234,16 @@ schedule_of lim v e ks (w, k1, k2, parts, is, l) = rw (parts, is) l
 
 finds_schedule : (lim : Limits) (v : ℕ) → v ≡ 2 → Finds (schedule_at lim) (ScheduleLang lim v)
 unfolding schedule_at
-finds_schedule lim v two = finds_same _ (Then (Lettered period_letters) (PeriodLang lim v)) (ScheduleLang lim v) (finds_seq (word_at period_word) (λ w. period_behind lim w) (Lettered period_letters) (PeriodLang lim v) (finds_letters period_word period_letters period_letters_are) (finds_period lim v two)) (schedule_of lim v)
+finds_schedule lim v two = finds_same _ (Then (Lettered period_letters) (PeriodLang lim v)) (ScheduleLang lim v) (finds_seq (word_at period_word) (λ w. period_after lim w) (Lettered period_letters) (PeriodLang lim v) (finds_letters period_word period_letters period_letters_are) (finds_period lim v two)) (schedule_of lim v)
 
 finds_cond : {A : Type 0} (b : Bool) (r q : Reader A) (L : A → List Token → Type 0) → (b ≡ true → Finds r L) → (b ≡ false → Finds q L) → Finds (cond b r q) L
 finds_cond true r q L x y = x refl
 finds_cond false r q L x y = y refl
 
-pub after_of : (lim : Limits) (v : ℕ) (e : Expiry) (ks : List Token) → Behind (codes "valid_for") (Dressed (λ n. After n) (OneNumber lim limit.ValidFor)) e ks → ExpiryIs lim v e ks
+pub after_of : (lim : Limits) (v : ℕ) (e : Expiry) (ks : List Token) → WordThen (codes "valid_for") (Dressed (λ n. After n) (OneNumber lim limit.ValidFor)) e ks → ExpiryIs lim v e ks
 after_of lim v e ks (more, is, (n, e_is, (k, item, l))) = rw (e_is, is, item) (is_after n k l)
 
-pub scheduled_of : (lim : Limits) (v : ℕ) (e : Expiry) (ks : List Token) → Behind (codes "schedule") (ScheduleLang lim v) e ks → ExpiryIs lim v e ks
+pub scheduled_of : (lim : Limits) (v : ℕ) (e : Expiry) (ks : List Token) → WordThen (codes "schedule") (ScheduleLang lim v) e ks → ExpiryIs lim v e ks
 scheduled_of lim v e ks (more, is, l) = rw is l
 
 pub never_of : (lim : Limits) (v : ℕ) (e : Expiry) (ks : List Token) → Nothing Never e ks → ExpiryIs lim v e ks
@@ -254,23 +255,23 @@ finds_expiry lim v =
     let never : Finds (give Never) (ExpiryIs lim v) = finds_same _ (Nothing Never) (ExpiryIs lim v) (finds_give Never) (never_of lim v) in
     let after : Reader Expiry = seq (number_at lim limit.ValidFor) (λ n. give (After n)) in
     let sched : Reader Expiry = if_keyword (codes "schedule") (schedule_at lim) (give Never) in
-    finds_same _ (Either (Behind (codes "valid_for") (Dressed (λ n. After n) (OneNumber lim limit.ValidFor))) (ExpiryIs lim v)) (ExpiryIs lim v)
+    finds_same _ (Either (WordThen (codes "valid_for") (Dressed (λ n. After n) (OneNumber lim limit.ValidFor))) (ExpiryIs lim v)) (ExpiryIs lim v)
     (finds_if_keyword (codes "valid_for") after (if v == 2 then sched else give Never) (Dressed (λ n. After n) (OneNumber lim limit.ValidFor)) (ExpiryIs lim v) (finds_as (number_at lim limit.ValidFor) (λ n. After n) (OneNumber lim limit.ValidFor) (finds_number lim limit.ValidFor))
     (finds_cond (v == 2) sched (give Never) (ExpiryIs lim v)
-    (λ two. finds_same _ (Either (Behind (codes "schedule") (ScheduleLang lim v)) (Nothing Never)) (ExpiryIs lim v) (finds_if_keyword (codes "schedule") (schedule_at lim) (give Never) (ScheduleLang lim v) (Nothing Never) (finds_schedule lim v (is_equal v 2 two)) (finds_give Never)) (either _ _ (ExpiryIs lim v) (scheduled_of lim v) (never_of lim v)))
+    (λ two. finds_same _ (Either (WordThen (codes "schedule") (ScheduleLang lim v)) (Nothing Never)) (ExpiryIs lim v) (finds_if_keyword (codes "schedule") (schedule_at lim) (give Never) (ScheduleLang lim v) (Nothing Never) (finds_schedule lim v (nat_is v 2 two)) (finds_give Never)) (either _ _ (ExpiryIs lim v) (scheduled_of lim v) (never_of lim v)))
     (λ other. never)))
     (either _ _ (ExpiryIs lim v) (after_of lim v) (λ e ks l. l))
 
-pub keeping_of : (lim : Limits) (v : ℕ) (x : Keeping) (ks : List Token) → Then (ExpiryIs lim v) (λ e. Dressed (λ l. record { expiry = e; latched = l }) (Flag (codes "latched"))) x ks → KeepingIs lim v op.Build x ks
-keeping_of lim v x ks (e, k1, k2, parts, y, (l, is, f)) = rw (is, parts) (is_build_keeping e l k1 k2 y f)
+pub retention_of : (lim : Limits) (v : ℕ) (x : Retention) (ks : List Token) → Then (ExpiryIs lim v) (λ e. Dressed (λ l. record { expiry = e; latched = l }) (Flag (codes "latched"))) x ks → RetentionIs lim v op.Build x ks
+retention_of lim v x ks (e, k1, k2, parts, y, (l, is, f)) = rw (is, parts) (is_build_retention e l k1 k2 y f)
 
-pub no_keeping_of : (lim : Limits) (v : ℕ) (x : Keeping) (ks : List Token) → Nothing (record { expiry = Never; latched = false }) x ks → KeepingIs lim v op.Output x ks
-no_keeping_of lim v x ks (is, none) = rw (is, none) is_output_keeping
+pub no_retention_of : (lim : Limits) (v : ℕ) (x : Retention) (ks : List Token) → Nothing (record { expiry = Never; latched = false }) x ks → RetentionIs lim v op.Output x ks
+no_retention_of lim v x ks (is, none) = rw (is, none) is_output_retention
 
-finds_keeping : (lim : Limits) (v : ℕ) (w : OpWord) → Finds (keeping_at lim v w) (KeepingIs lim v w)
-unfolding keeping_at
-finds_keeping lim v op.Build = finds_same _ _ (KeepingIs lim v op.Build) (finds_seq (expiry_at lim v) _ _ _ (finds_expiry lim v) (λ e. finds_as (flag_at (codes "latched")) _ _ (finds_flag (codes "latched")))) (keeping_of lim v)
-finds_keeping lim v op.Output = finds_same _ _ (KeepingIs lim v op.Output) (finds_give (record { expiry = Never; latched = false })) (no_keeping_of lim v)
+finds_retention : (lim : Limits) (v : ℕ) (w : OpWord) → Finds (retention_at lim v w) (RetentionIs lim v w)
+unfolding retention_at
+finds_retention lim v op.Build = finds_same _ _ (RetentionIs lim v op.Build) (finds_seq (expiry_at lim v) _ _ _ (finds_expiry lim v) (λ e. finds_as (flag_at (codes "latched")) _ _ (finds_flag (codes "latched")))) (retention_of lim v)
+finds_retention lim v op.Output = finds_same _ _ (RetentionIs lim v op.Output) (finds_give (record { expiry = Never; latched = false })) (no_retention_of lim v)
 
 run_of : (lim : Limits) (x : List (List ℕ)) (ks : List Token) → Then (Keyword (codes "run")) (λ u. Then (OneText lim) (λ t. Dressed (λ ts. t ∷ ts) (TextsLang [] [] lim lim.more_words))) x ks → RunIs lim x ks
 run_of lim x ks (u, a1, a2, e1, f1, (t, b1, b2, e2, (k, item, l), (ts, is, (few, rest)))) = rw (is, e1, f1, e2, item) (is_run t ts k b2 l few rest)
@@ -280,15 +281,15 @@ unfolding run_at
 finds_run lim = finds_same _ _ (RunIs lim) (finds_seq (keyword_at (codes "run")) _ _ _ (finds_keyword (codes "run")) (λ u. finds_seq (text_at lim) _ _ _ (finds_text lim) (λ t. finds_as (texts_at (command_word_at lim) lim.more_words) _ _ (finds_texts [] [] lim (command_word_at lim) (finds_command_word lim) lim.more_words)))) (run_of lim)
 
 abbrev pub OpLang : Limits → ℕ → List ℕ → OpWord → OpDecl → List Token → Type 0
-OpLang lim v n w d ks = (p : Where) × (m : Manner) × (e : Keeping) × (c : Bool) × (ws : List (List ℕ)) × (kp km ke kc kr : List Token) × (d ≡ op_of n w p m e c ws) × (ks ≡ kp ++ (km ++ (ke ++ (kc ++ kr))))
-    × WhereIs lim p kp × MannerIs lim m km × KeepingIs lim v w e ke × Flag (codes "no_cancel") c kc × RunIs lim ws kr
+OpLang lim v n w d ks = (p : Placement) × (m : Settings) × (e : Retention) × (c : Bool) × (ws : List (List ℕ)) × (kp km ke kc kr : List Token) × (d ≡ op_of n w p m e c ws) × (ks ≡ kp ++ (km ++ (ke ++ (kc ++ kr))))
+    × PlacementIs lim p kp × SettingsAre lim m km × RetentionIs lim v w e ke × Flag (codes "no_cancel") c kc × RunIs lim ws kr
 
-pub op_lang_of : (lim : Limits) (v : ℕ) (n : List ℕ) (w : OpWord) (d : OpDecl) (ks : List Token) → Then (WhereIs lim) (λ p. Then (MannerIs lim) (λ m. Then (KeepingIs lim v w) (λ e. Then (Flag (codes "no_cancel")) (λ c. Dressed (λ ws. op_of n w p m e c ws) (RunIs lim))))) d ks → OpLang lim v n w d ks
+pub op_lang_of : (lim : Limits) (v : ℕ) (n : List ℕ) (w : OpWord) (d : OpDecl) (ks : List Token) → Then (PlacementIs lim) (λ p. Then (SettingsAre lim) (λ m. Then (RetentionIs lim v w) (λ e. Then (Flag (codes "no_cancel")) (λ c. Dressed (λ ws. op_of n w p m e c ws) (RunIs lim))))) d ks → OpLang lim v n w d ks
 op_lang_of lim v n w d ks (p, a1, a2, e1, x1, (m, b1, b2, e2, x2, (e, c1, c2, e3, x3, (c, d1, d2, e4, x4, (ws, is, x5))))) = (p, m, e, c, ws, a1, b1, c1, d1, d2, is, rw (e1, e2, e3, e4) refl, x1, x2, x3, x4, x5)
 
 finds_op : (lim : Limits) (v : ℕ) (n : List ℕ) (w : OpWord) → Finds (op_at lim v n w) (OpLang lim v n w)
 unfolding op_at
-finds_op lim v n w = finds_same _ _ (OpLang lim v n w) (finds_seq (where_at lim) _ _ _ (finds_where lim) (λ p. finds_seq (manner_at lim) _ _ _ (finds_manner lim) (λ m. finds_seq (keeping_at lim v w) _ _ _ (finds_keeping lim v w)
+finds_op lim v n w = finds_same _ _ (OpLang lim v n w) (finds_seq (placement_at lim) _ _ _ (finds_placement lim) (λ p. finds_seq (settings_at lim) _ _ _ (finds_settings lim) (λ m. finds_seq (retention_at lim v w) _ _ _ (finds_retention lim v w)
     (λ e. finds_seq (flag_at (codes "no_cancel")) _ _ _ (finds_flag (codes "no_cancel")) (λ c. finds_as (run_at lim) _ _ (finds_run lim)))))) (op_lang_of lim v n w)
 
 -- ---- a declaration
@@ -296,13 +297,10 @@ finds_op lim v n w = finds_same _ _ (OpLang lim v n w) (finds_seq (where_at lim)
 abbrev pub NewName : Bounds → DeclWord → Seen → List ℕ → List Token → Type 0
 NewName b w seen n ks = OneName b.lim n ks × (seen.count w < b.most w) × ((not b.twice && seen.named w n) ≡ false)
 
-below : (m n : ℕ) → nat_lt m n ≡ true → m < n
-below m n e = grind (arith, nat_tests)
-
 new_for : (b : Bounds) (w : DeclWord) (seen : Seen) (k : Token) → FindsFor (declared_choice b w seen k) (λ n more. NewName b w seen n (k ∷ more))
-new_for b w seen (Name m) = for_if (nat_lt (seen.count w) (b.most w)) _ _ _ (λ r. for_if (not b.twice && seen.named w m) _ _ _ (λ e. tt) (λ e. finds_one (λ n more. NewName b w seen n (Name m ∷ more)) m ((Name m, refl, refl), below (seen.count w) (b.most w) r, e))) (λ r. tt)
+new_for b w seen (Name m) = for_if (nat_lt (seen.count w) (b.most w)) _ _ _ (λ r. for_if (not b.twice && seen.named w m) _ _ _ (λ e. tt) (λ e. finds_one (λ n more. NewName b w seen n (Name m ∷ more)) m ((Name m, refl, refl), nat_lt_is (seen.count w) (b.most w) r, e))) (λ r. tt)
 new_for b w seen LongName = for_if (nat_lt (seen.count w) (b.most w)) _ _ _
-    (λ r. for_if (b.lim.lifted limit.Name) _ _ _ (λ l. for_if (not b.twice && seen.named w []) _ _ _ (λ e. tt) (λ e. finds_one (λ n more. NewName b w seen n (LongName ∷ more)) [] ((LongName, refl, (l, refl)), below (seen.count w) (b.most w) r, e))) (λ l. tt)) (λ r. tt)
+    (λ r. for_if (b.lim.lifted limit.Name) _ _ _ (λ l. for_if (not b.twice && seen.named w []) _ _ _ (λ e. tt) (λ e. finds_one (λ n more. NewName b w seen n (LongName ∷ more)) [] ((LongName, refl, (l, refl)), nat_lt_is (seen.count w) (b.most w) r, e))) (λ l. tt)) (λ r. tt)
 new_for b w seen (Number m) = tt
 new_for b w seen (Words m) = tt
 new_for b w seen (Mark m) = tt
@@ -325,7 +323,7 @@ pair_for b seen n LongText = tt
 finds_pair : (b : Bounds) (seen : Seen) (n : List ℕ) → Finds (paired_at b seen n) (NewPair b seen n)
 finds_pair b seen n = finds_by (paired_choice b seen n) (NewPair b seen n) (pair_for b seen n)
 
--- a declaration is spelled, and fits behind those that are known
+-- a declaration is spelled, and fits after those that are known
 abbrev pub DeclLang : Bounds → Seen → Declaration → List Token → Type 0
 DeclLang b seen d ks = Declares b.lim b.depth seen.version d ks × Fits b seen d
 
@@ -378,7 +376,7 @@ some_tokens lim depth v d ks (is_node_decl n t m k more name x) = omega arith
 
 -- ---- declarations up to the end
 
--- The file ends there. The tokens spell declarations, which were put behind those before them.
+-- The file ends there. The tokens spell declarations, which were put after those before them.
 pub record AllRead (b : Bounds) (v : ℕ) (before all : List Declaration) (s : Stop) (ts rest : List TokenAt) : Type 0 where
   pub more : List Declaration
   pub offset : ℕ
@@ -425,10 +423,6 @@ decls_read b v (suc n) before all s (t ∷ ts) rest e =
     rw one_decl.1 (read_more b v before first.0.0 all s one_decl.0 first.0.1 rest one_decl.2 (decls_read b v n (before ++ first.0.0 ∷ []) all s first.0.1 rest first.2))
 
 -- ---- a loop over declarations
-
-tokens_in-length : (ts : List TokenAt) → length (tokens_in ts) ≡ length ts
-tokens_in-length [] = refl
-tokens_in-length (t ∷ ts) = ap suc (tokens_in-length ts)
 
 -- a declaration takes a token
 pub shorter : (b : Bounds) (seen : Seen) (d : Declaration) (s : Stop) (ts rest : List TokenAt) → decl_at b seen s ts ≡ Ok (d, rest) → length rest < length ts

@@ -25,11 +25,11 @@ use Rattle.pipe_text.specs.declared.words.PeriodWord.TheVariants as period
 use Rattle.pipe_text.specs.declared.words.SideWord.TheVariants as side
 use Rattle.pipe_text.specs.Words.{decl_letters, decl_word, value_letters, value_word, op_letters, op_word, period_letters, period_word, side_letters, side_word, level_letters, level_word}
 use Rattle.pipe_text.specs.Grammar.{Limits, Items}
-use Rattle.pipe_text.specs.FileGrammar.{Optional, SomeText, On, Flag, ValueIs, WhereIs, LevelIs, MannerIs, offset_of, OffsetIs, ExpiryIs, KeepingIs, RunIs, is_run, Declares, is_input_decl, is_pool_decl, is_client_decl, is_worker_decl, is_op_decl, is_node_decl}
-use Rattle.pipe_text.specs.Standing.{limit_of}
-use Rattle.pipe_text.specs.Readers.{Reader, give, seq, mark_at, word_at, keyword_at, is_keyword, if_keyword}
-use Rattle.pipe_text.specs.TermReading.{beyond, Counted, name_at, text_at, number_at, command_word_at, texts_at, items_at}
-use Rattle.pipe_text.specs.FileReading.{
+use Rattle.pipe_text.specs.FileGrammar.{Optional, SomeText, On, Flag, ValueIs, PlacementIs, LevelIs, SettingsAre, offset_of, OffsetIs, ExpiryIs, RetentionIs, RunIs, is_run, Declares, is_input_decl, is_pool_decl, is_client_decl, is_worker_decl, is_op_decl, is_node_decl}
+use Rattle.pipe_text.specs.Files.{limit_of}
+use Rattle.pipe_text.specs.inside.Readers.{Reader, give, seq, mark_at, word_at, keyword_at, is_keyword, if_keyword}
+use Rattle.pipe_text.specs.inside.TermReading.{beyond, Counted, name_at, text_at, number_at, command_word_at, texts_at, items_at}
+use Rattle.pipe_text.specs.inside.FileReading.{
   Bounds,
   Seen,
   declared_choice,
@@ -40,30 +40,31 @@ use Rattle.pipe_text.specs.FileReading.{
   any_number_at,
   optional_text_at,
   flag_at,
-  value_behind,
+  value_after,
   value_at,
-  where_at,
+  placement_at,
   level_at,
-  manner_at,
+  settings_at,
   offset_at,
-  period_behind,
+  period_after,
   schedule_at,
   expiry_at,
-  keeping_at,
+  retention_at,
   run_at,
   op_at,
   rest_at,
   decl_at,
 }
-use Rattle.pipe_text.specs.Firsts.{SameLimit, Begins}
-use Rattle.pipe_text.proofs.Finding.{Nothing, Then, Dressed, Either, is_equal, Single, IsMark}
+use Rattle.pipe_text.specs.FirstFault.{SameLimit, Begins}
+use Rattle.pipe_text.proofs.Finding.{Nothing, Then, Dressed, Either, Single, IsMark}
 use Rattle.pipe_text.proofs.WordLaws.{decl_letters_are, value_letters_are, op_letters_are, period_letters_are, side_letters_are, level_letters_are}
 use Rattle.pipe_text.proofs.TermFinds.{Lettered, OneName, OneText, OneNumber, either}
-use Rattle.pipe_text.proofs.FileFinds.{Keyword, Behind, behind_of, optional_of, some_text_of, AnyNumber, ValueRest, text_value_of, num_value_of, list_value_of, value_of, WhereChain, where_of, manner_of, offset_is, PeriodLang, daily_of, monthly_of, ScheduleLang, schedule_of, after_of, scheduled_of, never_of, keeping_of, no_keeping_of, OpLang, op_lang_of}
+use Rattle.pipe_text.proofs.FileFinds.{Keyword, WordThen, following_of, optional_of, some_text_of, AnyNumber, ValueRest, text_value_of, num_value_of, list_value_of, value_of, PlacementChain, placement_of, settings_of, offset_is, PeriodLang, daily_of, monthly_of, ScheduleLang, schedule_of, after_of, scheduled_of, never_of, retention_of, no_retention_of, OpLang, op_lang_of}
 use Rattle.pipe_text.proofs.Wider.{less}
 use Rattle.pipe_text.proofs.Locals.{Local, LocalFor, Implies, local_same, local_give, local_seq, local_branch, local_peek, for_give, for_syntax, which}
 use Rattle.pipe_text.proofs.TermLocals.{roomy, local_as, local_name, begins_name, local_text, Lifts, local_number, TextsG, local_more_words, local_mark, local_word, local_keyword, local_items}
 use Rattle.pipe_text.proofs.TermFaults.{TermG, Whole, at_less, local_term, some_term}
+use Rattle.value_core.proofs.Basics.{nat_is}
 
 -- something is of the language
 abbrev pub Some_of : {A : Type 0} → (A → List Token → Type 0) → Type 0
@@ -116,17 +117,17 @@ part_items b = record { local = local_items b; some = ([], Mark 93 ∷ [], refl)
 
 -- ---- parts that may be left out
 
-part_if_keyword : {A : Type 0} (b : Bounds) (letters : List ℕ) (r q : Bounds → Reader A) (L M : A → List Token → Type 0) → Part b r L → Part b q M → Part b (λ e. if_keyword letters (r e) (q e)) (Either (Behind letters L) M)
+part_if_keyword : {A : Type 0} (b : Bounds) (letters : List ℕ) (r q : Bounds → Reader A) (L M : A → List Token → Type 0) → Part b r L → Part b q M → Part b (λ e. if_keyword letters (r e) (q e)) (Either (WordThen letters L) M)
 part_if_keyword b letters r q L M x y =
     let s = y.some in
     record {
-      local = local_peek b (is_keyword letters) (λ e. seq (keyword_at letters) (λ u. r e)) q (Behind letters L) M
-          (local_same b (λ e. seq (keyword_at letters) (λ u. r e)) (Then (Keyword letters) (λ u. L)) (Behind letters L) (local_seq b (λ e. keyword_at letters) (λ e u. r e) (Keyword letters) (λ u. L) (λ u. x.some) (local_keyword b letters) (λ u can. x.local)) (behind_of letters L)) y.local;
+      local = local_peek b (is_keyword letters) (λ e. seq (keyword_at letters) (λ u. r e)) q (WordThen letters L) M
+          (local_same b (λ e. seq (keyword_at letters) (λ u. r e)) (Then (Keyword letters) (λ u. L)) (WordThen letters L) (local_seq b (λ e. keyword_at letters) (λ e u. r e) (Keyword letters) (λ u. L) (λ u. x.some) (local_keyword b letters) (λ u can. x.local)) (following_of letters L)) y.local;
       some = (s.0, s.1, inr s.2);
     }
 
 part_optional : {A : Type 0} (b : Bounds) (letters : List ℕ) (r : Bounds → Reader A) (L : A → List Token → Type 0) (d : A) → Part b r L → Part b (λ e. if_keyword letters (r e) (give d)) (Optional letters L d)
-part_optional b letters r L d x = part_same b (λ e. if_keyword letters (r e) (give d)) (Either (Behind letters L) (Nothing d)) (Optional letters L d) (part_if_keyword b letters r (λ e. give d) L (Nothing d) x (part_give b d)) (optional_of letters L d)
+part_optional b letters r L d x = part_same b (λ e. if_keyword letters (r e) (give d)) (Either (WordThen letters L) (Nothing d)) (Optional letters L d) (part_if_keyword b letters r (λ e. give d) L (Nothing d) x (part_give b d)) (optional_of letters L d)
 
 part_optional_text : (b : Bounds) (letters : List ℕ) → Part b (λ e. optional_text_at e.lim letters) (Optional letters (SomeText (roomy b.lim)) None)
 part_optional_text b letters = part_optional b letters (λ e. seq (text_at e.lim) (λ t. give (Some t))) (SomeText (roomy b.lim)) None
@@ -151,42 +152,42 @@ any_number_of b LongText = for_syntax b _ AnyNumber LongText begins_any (λ e. r
 part_any_number : (b : Bounds) → Part b (λ e. any_number_at) AnyNumber
 part_any_number b = record { local = local_branch b (λ e. any_number_choice) AnyNumber begins_any (any_number_of b); some = (0, Number 0 ∷ [], refl) }
 
-part_value_behind : (b : Bounds) (w : ValueWord) → Part b (λ e. value_behind e.lim w) (ValueRest (roomy b.lim) w)
-part_value_behind b form.Text = part_same b _ _ (ValueRest (roomy b.lim) form.Text) (part_seq b (λ e. text_at e.lim) _ _ _ (part_text b) (λ t. part_as b (λ e. optional_text_at e.lim (codes "watch")) _ _ (part_optional_text b (codes "watch")))) (text_value_of (roomy b.lim))
-part_value_behind b form.Num = part_same b _ _ (ValueRest (roomy b.lim) form.Num) (part_as b (λ e. any_number_at) _ _ (part_any_number b)) (num_value_of (roomy b.lim))
-part_value_behind b form.List = part_same b _ _ (ValueRest (roomy b.lim) form.List) (part_seq b (λ e. mark_at 91) _ _ _ (part_mark b 91) (λ u. part_as b (λ e. items_at e.lim) _ _ (part_items b))) (list_value_of (roomy b.lim))
+part_value_after : (b : Bounds) (w : ValueWord) → Part b (λ e. value_after e.lim w) (ValueRest (roomy b.lim) w)
+part_value_after b form.Text = part_same b _ _ (ValueRest (roomy b.lim) form.Text) (part_seq b (λ e. text_at e.lim) _ _ _ (part_text b) (λ t. part_as b (λ e. optional_text_at e.lim (codes "watch")) _ _ (part_optional_text b (codes "watch")))) (text_value_of (roomy b.lim))
+part_value_after b form.Num = part_same b _ _ (ValueRest (roomy b.lim) form.Num) (part_as b (λ e. any_number_at) _ _ (part_any_number b)) (num_value_of (roomy b.lim))
+part_value_after b form.List = part_same b _ _ (ValueRest (roomy b.lim) form.List) (part_seq b (λ e. mark_at 91) _ _ _ (part_mark b 91) (λ u. part_as b (λ e. items_at e.lim) _ _ (part_items b))) (list_value_of (roomy b.lim))
 
 part_value : (b : Bounds) → Part b (λ e. value_at e.lim) (ValueIs (roomy b.lim))
 unfolding value_at
-part_value b = part_same b _ _ (ValueIs (roomy b.lim)) (part_seq b (λ e. word_at value_word) (λ e w. value_behind e.lim w) (Lettered value_letters) (ValueRest (roomy b.lim)) (part_word b value_word value_letters value_letters_are form.Num) (part_value_behind b)) (value_of (roomy b.lim))
+part_value b = part_same b _ _ (ValueIs (roomy b.lim)) (part_seq b (λ e. word_at value_word) (λ e w. value_after e.lim w) (Lettered value_letters) (ValueRest (roomy b.lim)) (part_word b value_word value_letters value_letters_are form.Num) (part_value_after b)) (value_of (roomy b.lim))
 
 -- ---- an operation
 
-part_where : (b : Bounds) → Part b (λ e. where_at e.lim) (WhereIs (roomy b.lim))
-unfolding where_at
-part_where b = part_same b _ (WhereChain (roomy b.lim)) (WhereIs (roomy b.lim))
+part_placement : (b : Bounds) → Part b (λ e. placement_at e.lim) (PlacementIs (roomy b.lim))
+unfolding placement_at
+part_placement b = part_same b _ (PlacementChain (roomy b.lim)) (PlacementIs (roomy b.lim))
     (part_seq b (λ e. keyword_at (codes "pool")) _ _ _ (part_keyword b (codes "pool")) (λ u. part_seq b (λ e. name_at e.lim) _ _ _ (part_name b) (λ p. part_seq b (λ e. keyword_at (codes "client")) _ _ _ (part_keyword b (codes "client"))
     (λ v. part_seq b (λ e. name_at e.lim) _ _ _ (part_name b) (λ c. part_seq b (λ e. keyword_at (codes "cost")) _ _ _ (part_keyword b (codes "cost"))
-    (λ w. part_seq b (λ e. number_at e.lim limit.Cost) _ _ _ (part_number b limit.Cost (λ x y h. h)) (λ m. part_as b (λ e. number_at e.lim limit.Cost) _ _ (part_number b limit.Cost (λ x y h. h))))))))) (where_of (roomy b.lim))
+    (λ w. part_seq b (λ e. number_at e.lim limit.Cost) _ _ _ (part_number b limit.Cost (λ x y h. h)) (λ m. part_as b (λ e. number_at e.lim limit.Cost) _ _ (part_number b limit.Cost (λ x y h. h))))))))) (placement_of (roomy b.lim))
 
 part_level : (b : Bounds) → Part b (λ e. level_at) (Optional (codes "level") LevelIs level.Average)
 part_level b = part_optional b (codes "level") (λ e. word_at level_word) LevelIs level.Average (part_word b level_word level_letters level_letters_are level.Average)
 
-part_manner : (b : Bounds) → Part b (λ e. manner_at e.lim) (MannerIs (roomy b.lim))
-unfolding manner_at
-part_manner b = part_same b _ _ (MannerIs (roomy b.lim)) (part_seq b (λ e. optional_text_at e.lim (codes "hint")) _ _ _ (part_optional_text b (codes "hint")) (λ h. part_seq b (λ e. flag_at (codes "urgent")) _ _ _ (part_flag b (codes "urgent")) (λ u. part_as b (λ e. level_at) _ _ (part_level b)))) (manner_of (roomy b.lim))
+part_settings : (b : Bounds) → Part b (λ e. settings_at e.lim) (SettingsAre (roomy b.lim))
+unfolding settings_at
+part_settings b = part_same b _ _ (SettingsAre (roomy b.lim)) (part_seq b (λ e. optional_text_at e.lim (codes "hint")) _ _ _ (part_optional_text b (codes "hint")) (λ h. part_seq b (λ e. flag_at (codes "urgent")) _ _ _ (part_flag b (codes "urgent")) (λ u. part_as b (λ e. level_at) _ _ (part_level b)))) (settings_of (roomy b.lim))
 
 part_offset : (b : Bounds) → Part b (λ e. offset_at e.lim) (OffsetIs (roomy b.lim))
 part_offset b = part_same b _ (Then (Lettered side_letters) (λ s. Dressed (offset_of s) (OneNumber (roomy b.lim) limit.Offset))) (OffsetIs (roomy b.lim))
     (part_seq b (λ e. word_at side_word) (λ e s. seq (number_at e.lim limit.Offset) (λ n. give (offset_of s n))) (Lettered side_letters) (λ s. Dressed (offset_of s) (OneNumber (roomy b.lim) limit.Offset)) (part_word b side_word side_letters side_letters_are side.East) (λ s. part_as b (λ e. number_at e.lim limit.Offset) (offset_of s) (OneNumber (roomy b.lim) limit.Offset) (part_number b limit.Offset (λ x y h. h)))) (offset_is (roomy b.lim))
 
-part_period : (b : Bounds) (v : ℕ) → v ≡ 2 → (w : PeriodWord) → Part b (λ e. period_behind e.lim w) (PeriodLang (roomy b.lim) v w)
+part_period : (b : Bounds) (v : ℕ) → v ≡ 2 → (w : PeriodWord) → Part b (λ e. period_after e.lim w) (PeriodLang (roomy b.lim) v w)
 part_period b v two period.Daily = part_same b _ _ (PeriodLang (roomy b.lim) v period.Daily) (part_seq b (λ e. number_at e.lim limit.Minute) _ _ _ (part_number b limit.Minute (λ x y h. h)) (λ m. part_as b (λ e. offset_at e.lim) _ _ (part_offset b))) (daily_of (roomy b.lim) v two)
 part_period b v two period.Monthly = part_same b _ _ (PeriodLang (roomy b.lim) v period.Monthly) (part_seq b (λ e. number_at e.lim limit.Day) _ _ _ (part_number b limit.Day (λ x y h. h)) (λ d. part_seq b (λ e. number_at e.lim limit.Minute) _ _ _ (part_number b limit.Minute (λ x y h. h)) (λ m. part_as b (λ e. offset_at e.lim) _ _ (part_offset b)))) (monthly_of (roomy b.lim) v two)
 
 part_schedule : (b : Bounds) (v : ℕ) → v ≡ 2 → Part b (λ e. schedule_at e.lim) (ScheduleLang (roomy b.lim) v)
 unfolding schedule_at
-part_schedule b v two = part_same b _ _ (ScheduleLang (roomy b.lim) v) (part_seq b (λ e. word_at period_word) (λ e w. period_behind e.lim w) (Lettered period_letters) (PeriodLang (roomy b.lim) v) (part_word b period_word period_letters period_letters_are period.Daily) (part_period b v two)) (schedule_of (roomy b.lim) v)
+part_schedule b v two = part_same b _ _ (ScheduleLang (roomy b.lim) v) (part_seq b (λ e. word_at period_word) (λ e w. period_after e.lim w) (Lettered period_letters) (PeriodLang (roomy b.lim) v) (part_word b period_word period_letters period_letters_are period.Daily) (part_period b v two)) (schedule_of (roomy b.lim) v)
 
 part_expiry : (b : Bounds) (v : ℕ) → Part b (λ e. expiry_at e.lim v) (ExpiryIs (roomy b.lim) v)
 unfolding expiry_at
@@ -195,17 +196,17 @@ part_expiry b v =
     let never : Part b (λ e. give Never) E = part_same b (λ e. give Never) (Nothing Never) E (part_give b Never) (never_of (roomy b.lim) v) in
     let after : Bounds → Reader Expiry = λ e. seq (number_at e.lim limit.ValidFor) (λ n. give (After n)) in
     let sched : Bounds → Reader Expiry = λ e. if_keyword (codes "schedule") (schedule_at e.lim) (give Never) in
-    part_same b (λ e. if_keyword (codes "valid_for") (after e) (if v == 2 then sched e else give Never)) (Either (Behind (codes "valid_for") (Dressed (λ n. After n) (OneNumber (roomy b.lim) limit.ValidFor))) E) E
+    part_same b (λ e. if_keyword (codes "valid_for") (after e) (if v == 2 then sched e else give Never)) (Either (WordThen (codes "valid_for") (Dressed (λ n. After n) (OneNumber (roomy b.lim) limit.ValidFor))) E) E
     (part_if_keyword b (codes "valid_for") after (λ e. if v == 2 then sched e else give Never) (Dressed (λ n. After n) (OneNumber (roomy b.lim) limit.ValidFor)) E (part_as b (λ e. number_at e.lim limit.ValidFor) (λ n. After n) (OneNumber (roomy b.lim) limit.ValidFor) (part_number b limit.ValidFor (λ x y h. h)))
     (part_cond b (v == 2) sched (λ e. give Never) E
-    (λ two. part_same b sched (Either (Behind (codes "schedule") (ScheduleLang (roomy b.lim) v)) (Nothing Never)) E (part_if_keyword b (codes "schedule") (λ e. schedule_at e.lim) (λ e. give Never) (ScheduleLang (roomy b.lim) v) (Nothing Never) (part_schedule b v (is_equal v 2 two)) (part_give b Never)) (either _ _ E (scheduled_of (roomy b.lim) v) (never_of (roomy b.lim) v)))
+    (λ two. part_same b sched (Either (WordThen (codes "schedule") (ScheduleLang (roomy b.lim) v)) (Nothing Never)) E (part_if_keyword b (codes "schedule") (λ e. schedule_at e.lim) (λ e. give Never) (ScheduleLang (roomy b.lim) v) (Nothing Never) (part_schedule b v (nat_is v 2 two)) (part_give b Never)) (either _ _ E (scheduled_of (roomy b.lim) v) (never_of (roomy b.lim) v)))
     (λ other. never)))
     (either _ _ E (after_of (roomy b.lim) v) (λ e ks l. l))
 
-part_keeping : (b : Bounds) (v : ℕ) (w : OpWord) → Part b (λ e. keeping_at e.lim v w) (KeepingIs (roomy b.lim) v w)
-unfolding keeping_at
-part_keeping b v op.Build = part_same b _ _ (KeepingIs (roomy b.lim) v op.Build) (part_seq b (λ e. expiry_at e.lim v) _ _ _ (part_expiry b v) (λ x. part_as b (λ e. flag_at (codes "latched")) _ _ (part_flag b (codes "latched")))) (keeping_of (roomy b.lim) v)
-part_keeping b v op.Output = part_same b _ _ (KeepingIs (roomy b.lim) v op.Output) (part_give b (record { expiry = Never; latched = false })) (no_keeping_of (roomy b.lim) v)
+part_retention : (b : Bounds) (v : ℕ) (w : OpWord) → Part b (λ e. retention_at e.lim v w) (RetentionIs (roomy b.lim) v w)
+unfolding retention_at
+part_retention b v op.Build = part_same b _ _ (RetentionIs (roomy b.lim) v op.Build) (part_seq b (λ e. expiry_at e.lim v) _ _ _ (part_expiry b v) (λ x. part_as b (λ e. flag_at (codes "latched")) _ _ (part_flag b (codes "latched")))) (retention_of (roomy b.lim) v)
+part_retention b v op.Output = part_same b _ _ (RetentionIs (roomy b.lim) v op.Output) (part_give b (record { expiry = Never; latched = false })) (no_retention_of (roomy b.lim) v)
 
 run_all : (l : Limits) → Implies (Then (Keyword (codes "run")) (λ u. Then (OneText (roomy l)) (λ t. Dressed (λ ts. t ∷ ts) (TextsG [] [] (roomy l) (l.more_words - 0))))) (RunIs (roomy l))
 run_all l x ks (u, a1, a2, e1, f1, (t, b1, b2, e2, (k, item, h), (ts, is, (few, rest)))) = rw (is, e1, f1, e2, item) (is_run t ts k b2 h (omega (arith, few)) rest)
@@ -217,7 +218,7 @@ part_run b = part_same b _ _ (RunIs (roomy b.lim)) (part_seq b (λ e. keyword_at
 
 part_op : (b : Bounds) (v : ℕ) (n : List ℕ) (w : OpWord) → Part b (λ e. op_at e.lim v n w) (OpLang (roomy b.lim) v n w)
 unfolding op_at
-part_op b v n w = part_same b _ _ (OpLang (roomy b.lim) v n w) (part_seq b (λ e. where_at e.lim) _ _ _ (part_where b) (λ p. part_seq b (λ e. manner_at e.lim) _ _ _ (part_manner b) (λ m. part_seq b (λ e. keeping_at e.lim v w) _ _ _ (part_keeping b v w)
+part_op b v n w = part_same b _ _ (OpLang (roomy b.lim) v n w) (part_seq b (λ e. placement_at e.lim) _ _ _ (part_placement b) (λ p. part_seq b (λ e. settings_at e.lim) _ _ _ (part_settings b) (λ m. part_seq b (λ e. retention_at e.lim v w) _ _ _ (part_retention b v w)
     (λ k. part_seq b (λ e. flag_at (codes "no_cancel")) _ _ _ (part_flag b (codes "no_cancel")) (λ c. part_as b (λ e. run_at e.lim) _ _ (part_run b)))))) (op_lang_of (roomy b.lim) v n w)
 
 -- ---- new names

@@ -10,8 +10,9 @@ use Rattle.value_core.specs.declared.lexing.TokenAt.{TokenAt}
 use Rattle.pipe_text.specs.declared.fault.Fault.{Fault}
 use Rattle.value_core.specs.declared.lexing.Stop.{Stop}
 use Rattle.value_core.specs.Literals.{tokens_in}
-use Rattle.pipe_text.specs.Readers.{◌>>=◌, Reader, give, seq, Choice, go, branch, peek, next_passes, mark_at, mark_choice, chosen, word_choice, word_at}
+use Rattle.pipe_text.specs.inside.Readers.{◌>>=◌, Reader, give, seq, Choice, go, branch, peek, next_passes, mark_at, mark_choice, chosen, word_choice, word_at}
 use Rattle.pipe_text.proofs.Exactly.{tokens_in-append}
+use Rattle.value_core.proofs.Basics.{nat_is}
 
 -- what is read is in the language
 pub record Finds {A : Type 0} (r : Reader A) (L : A → List Token → Type 0) : Type 0 where
@@ -108,9 +109,6 @@ finds_peek test r q L M x y = record { found = peek_found test r q L M x y }
 
 -- ---- one token
 
-pub is_equal : (m c : ℕ) → (m == c) ≡ true → m ≡ c
-is_equal m c e = grind (arith, nat_tests)
-
 -- a language of one token: what L says of it
 abbrev pub Single : {A : Type 0} → (A → Token → Type 0) → A → List Token → Type 0
 Single L a ks = (k : Token) × (ks ≡ k ∷ []) × L a k
@@ -135,7 +133,7 @@ abbrev pub IsMark : ℕ → Unit {0} → Token → Type 0
 IsMark c u k = k ≡ Mark c
 
 mark_for : (c : ℕ) (k : Token) → FindsFor (mark_choice c k) (Tells (IsMark c) k)
-mark_for c (Mark m) = for_if (m == c) _ _ _ (λ e. tells (IsMark c) (Mark m) tt (ap Mark (is_equal m c e))) (λ e. tt)
+mark_for c (Mark m) = for_if (m == c) _ _ _ (λ e. tells (IsMark c) (Mark m) tt (ap Mark (nat_is m c e))) (λ e. tt)
 mark_for c (Name n) = tt
 mark_for c (Number n) = tt
 mark_for c (Words n) = tt

@@ -20,23 +20,24 @@ use Rattle.pipe_text.specs.declared.fault.LimitName.TheVariants as limit
 use Rattle.pipe_text.specs.declared.words.DeclWord.TheVariants as decl
 use Rattle.pipe_text.specs.Words.{decl_letters}
 use Rattle.pipe_text.specs.FileGrammar.{is_pool_decl, DeclareAll, FileSpells}
-use Rattle.pipe_text.specs.Standing.{program_of, count_of, all_terms}
-use Rattle.pipe_text.specs.Readers.{◌>>=◌, Reader, fault_of, seq, keyword_at}
-use Rattle.pipe_text.specs.TermReading.{beyond}
-use Rattle.pipe_text.specs.FileReading.{Bounds, file_bounds, seen_in, decl_at, decls_at, all_at, version_choice, version_at, made, program_at, read_of}
-use Rattle.pipe_text.specs.Firsts.{Sound, File, FileIs, IsFile, Begins, GoesOn, SameLimit, RightAt, RightAtStop, IsRight, IsRightFault}
+use Rattle.pipe_text.specs.Files.{program_of, count_of, all_terms}
+use Rattle.pipe_text.specs.inside.Readers.{◌>>=◌, Reader, fault_of, seq, keyword_at}
+use Rattle.pipe_text.specs.inside.TermReading.{beyond}
+use Rattle.pipe_text.specs.inside.FileReading.{Bounds, file_bounds, seen_in, decl_at, decls_at, all_at, version_choice, version_at, made, program_at, read_of}
+use Rattle.pipe_text.specs.FirstFault.{Sound, File, FileIs, IsFile, Begins, GoesOn, SameLimit, RightAt, RightAtStop, IsRight, IsRightFault}
 use Rattle.pipe_text.proofs.Exactly.{tokens_in-append}
-use Rattle.pipe_text.proofs.Finding.{Then, is_equal}
+use Rattle.pipe_text.proofs.Finding.{Then}
 use Rattle.pipe_text.proofs.FileFinds.{Keyword, shorter, enough}
 use Rattle.pipe_text.proofs.WholeFile.{OneVersion, file_read}
 use Rattle.pipe_text.proofs.Wider.{Wider, Up, SameNamed}
 use Rattle.pipe_text.proofs.Locals.{Local, LocalFor, Says, Taken, AtToken, Ended, SameNext, bind_err, err_stays, ok_goes, says_wider, same_self, next_along, local_branch, local_seq, for_give, for_syntax, which}
 use Rattle.pipe_text.proofs.TermLocals.{roomy, local_keyword}
 use Rattle.pipe_text.proofs.FileLocals.{DeclG, part_decl}
+use Rattle.value_core.proofs.Basics.{nat_is, nat_lt_is, or_left, or_right}
 
 -- ---- declarations up to the end
 
--- declarations behind those before, with room for one more of what is counted
+-- declarations after those before, with room for one more of what is counted
 abbrev AllG : Bounds → ℕ → List Declaration → List Declaration → List Token → Type 0
 AllG b v before all ks = (more : List Declaration) × (all ≡ before ++ more) × DeclareAll (roomy b.lim) (suc b.depth) v more ks
 
@@ -49,7 +50,7 @@ unfolding all_at
 open_same e v n size before s (Ok y) short fits = let less = short y.0 y.1 refl in enough e v n (length y.1) (before ++ y.0 ∷ []) s y.1 (omega (arith, less, fits)) (omega arith)
 open_same e v n size before s (Err f) short fits = refl
 
--- one declaration, and those behind it
+-- one declaration, and those after it
 pub all_open : (e : Bounds) (v : ℕ) (before : List Declaration) (s : Stop) (u : TokenAt) (more : List TokenAt) → all_at e v before s (u ∷ more) ≡ (decl_at e (seen_in v before) s (u ∷ more) >>= λ y. all_at e v (before ++ y.0 ∷ []) s y.1)
 unfolding all_at decls_at
 all_open e v before s u more = open_same e v (length more) (length (u ∷ more)) before s (decl_at e (seen_in v before) s (u ∷ more)) (λ d rest h. shorter e (seen_in v before) d s (u ∷ more) rest h) (omega arith)
@@ -140,9 +141,9 @@ begins_version = (1, Number 1, [], (inl refl, refl))
 
 version_number : (b : Bounds) (m : ℕ) → LocalFor b (λ e. version_choice (Number m)) OneVersion (Number m)
 version_number b m = elim (which (m == 1)) [
-  | inl first ↦ for_give b (λ e. version_choice (Number m)) OneVersion (Number m) 1 (λ e w. rw first refl) (inl refl, λ i. Number (is_equal m 1 first i) ∷ [])
+  | inl first ↦ for_give b (λ e. version_choice (Number m)) OneVersion (Number m) 1 (λ e w. rw first refl) (inl refl, λ i. Number (nat_is m 1 first i) ∷ [])
   | inr other ↦ elim (which (m == 2)) [
-    | inl second ↦ for_give b (λ e. version_choice (Number m)) OneVersion (Number m) 2 (λ e w. rw (other, second) refl) (inr refl, λ i. Number (is_equal m 2 second i) ∷ [])
+    | inl second ↦ for_give b (λ e. version_choice (Number m)) OneVersion (Number m) 2 (λ e w. rw (other, second) refl) (inr refl, λ i. Number (nat_is m 2 second i) ∷ [])
     | inr none ↦ for_syntax b (λ e. version_choice (Number m)) OneVersion (Number m) begins_version (λ e. rw (other, none) refl)
   ]
 ]
@@ -236,14 +237,6 @@ join b c = record {
   most = λ w. max (b.most w) (c.most w);
   twice = b.twice || c.twice;
 }
-
-or_left : (x y : Bool) → x ≡ true → (x || y) ≡ true
-or_left true y e = refl
-or_left false y e = absurd cc
-
-or_right : (x y : Bool) → y ≡ true → (x || y) ≡ true
-or_right true y e = refl
-or_right false y e = e
 
 or_same : (x y : Bool) → x ≡ y → x ≡ (x || y)
 or_same true y e = refl
@@ -358,12 +351,9 @@ is_right b s ts f e = elim (file_judged b s ts f e) [
 
 -- ---- the bytes of a file
 
-more_than : (n m : ℕ) → nat_lt n m ≡ true → n < m
-more_than n m e = grind (arith, nat_tests)
-
 too_many : (bytes : List ℕ) (b : Bool) (f : Fault) → nat_lt 1048576 (length bytes) ≡ b → cond b (Err (beyond limit.File 0)) (program_at file_bounds (lexed bytes).stop (lexed bytes).tokens) ≡ Err f
     → ((f ≡ Limit limit.File 1048576 0) × (1048576 < length bytes)) ⊎ IsRight file_bounds (lexed bytes).stop (lexed bytes).tokens f
-too_many bytes true f long e = inl (cc, more_than 1048576 (length bytes) long)
+too_many bytes true f long e = inl (cc, nat_lt_is 1048576 (length bytes) long)
 too_many bytes false f long e = inr (is_right file_bounds (lexed bytes).stop (lexed bytes).tokens f e)
 
 pub right_fault : (bytes : List ℕ) (f : Fault) → read_of bytes ≡ Err f → IsRightFault bytes f

@@ -19,12 +19,13 @@ use Rattle.value_core.specs.declared.lexing.TokenAt.{TokenAt}
 use Rattle.value_core.specs.declared.lexing.Tokens.{Tokens}
 use Rattle.value_core.specs.Texts.{no_nul}
 use Rattle.value_core.specs.Strings.{step, with_byte, later, go_on, body_at}
-use Rattle.value_core.specs.Names.{is_letter, is_word_byte}
+use Rattle.value_core.specs.Names.{is_letter, is_name, is_word_byte}
 use Rattle.value_core.specs.Tokens.{is_mark, gap, number_of, number_token, word_token, sized, string_at, token_at, found_at, next_at}
 use Rattle.value_core.specs.Lexing.{lexed_next, lexed_from, lexed}
 use Rattle.value_core.specs.Literals.{tokens_in}
-use Rattle.value_core.proofs.Scans.{body_no_nul}
-use Rattle.term_core.specs.Limits.{is_name, is_text}
+use Rattle.value_core.proofs.Scans.{body_no_nul, run_passes, run_some}
+use Rattle.term_core.specs.Limits.{is_text}
+use Rattle.value_core.proofs.Basics.{and_both}
 
 -- a name in form, a text as it may be within the limit, a number of 64 bits, a mark
 abbrev pub IsGood : Token → Type 0
@@ -94,17 +95,6 @@ string_fine most (Some x) clean (h, k) = text_fine x.0 x.1 most (is_utf8 x.0) (n
 
 -- ---- words
 
-prefix_step : (test : ℕ → Bool) (b : ℕ) (bs : List ℕ) (t : Bool) → test b ≡ t → list_all test (take (prefix_len test bs) bs) ≡ true → list_all test (take (cond t (1 + prefix_len test bs) 0) (b ∷ bs)) ≡ true
-prefix_step test b bs true e h = let one : 1 + prefix_len test bs ≡ suc (prefix_len test bs) = omega arith in rw (one, e, h) refl
-prefix_step test b bs false e h = refl
-
-prefix_some : (test : ℕ → Bool) (b : ℕ) (bs : List ℕ) → test b ≡ true → 0 < prefix_len test (b ∷ bs)
-prefix_some test b bs e = rw e (omega arith)
-
-prefix_all : (test : ℕ → Bool) (bs : List ℕ) → list_all test (take (prefix_len test bs) bs) ≡ true
-prefix_all test [] = refl
-prefix_all test (b ∷ bs) = prefix_step test b bs (test b) refl (prefix_all test bs)
-
 -- a number that was read, if one was, has 64 bits
 abbrev Bits64 : Option ℕ → Type 0
 Bits64 None = Unit {0}
@@ -124,9 +114,6 @@ number_fine : (o : Option ℕ) (n most : ℕ) → Bits64 o → 0 < n → n ≤ m
 number_fine None n most bits some h = tt
 number_fine (Some m) n most bits some h = (bits, omega (arith, some), h)
 
-and_of : (a b : Bool) → a ≡ true → b ≡ true → (a && b) ≡ true
-and_of a b e h = rw (e, h) refl
-
 and_right : (a b : Bool) → (a && b) ≡ true → b ≡ true
 and_right true b e = e
 and_right false b e = absurd cc
@@ -134,7 +121,7 @@ and_right false b e = absurd cc
 name_fine : (b : ℕ) (bs : List ℕ) (n most : ℕ) (letter long : Bool) (o : Option ℕ) → Bits64 o → is_letter b ≡ letter → nat_lt 64 (length (b ∷ bs)) ≡ long → list_all is_word_byte (b ∷ bs) ≡ true → 0 < n → n ≤ most
     → Fine most (sized (cond letter (Some (cond long LongName (Name (b ∷ bs)))) (number_token o)) n)
 name_fine b bs n most true true o bits l e w some h = (tt, omega (arith, some), h)
-name_fine b bs n most true false o bits l e w some h = (and_of (is_letter b) _ l (and_of (list_all is_word_byte bs) _ (and_right (is_word_byte b) (list_all is_word_byte bs) w) (at_most 64 (length (b ∷ bs)) e)), omega (arith, some), h)
+name_fine b bs n most true false o bits l e w some h = (and_both (is_letter b) _ l (and_both (list_all is_word_byte bs) _ (and_right (is_word_byte b) (list_all is_word_byte bs) w) (at_most 64 (length (b ∷ bs)) e)), omega (arith, some), h)
 name_fine b bs n most false long o bits l e w some h = number_fine o n most bits some h
 
 word_fine : (w : List ℕ) (n most : ℕ) → list_all is_word_byte w ≡ true → 0 < n → n ≤ most → Fine most (sized (word_token w) n)
@@ -145,7 +132,7 @@ token_fine : (bs : List ℕ) → Fine (length bs) (token_at bs)
 token_fine [] = tt
 token_fine (b ∷ bs) =
     if_fine (length (b ∷ bs)) (is_mark b) _ _ (λ e. (e, omega arith, omega arith))
-    (if_fine (length (b ∷ bs)) (is_word_byte b) _ _ (λ e. word_fine (take (prefix_len is_word_byte (b ∷ bs)) (b ∷ bs)) (prefix_len is_word_byte (b ∷ bs)) (length (b ∷ bs)) (prefix_all is_word_byte (b ∷ bs)) (prefix_some is_word_byte b bs e) (prefix_len-le-length is_word_byte (b ∷ bs)))
+    (if_fine (length (b ∷ bs)) (is_word_byte b) _ _ (λ e. word_fine (take (prefix_len is_word_byte (b ∷ bs)) (b ∷ bs)) (prefix_len is_word_byte (b ∷ bs)) (length (b ∷ bs)) (run_passes is_word_byte (b ∷ bs)) (run_some is_word_byte b bs e) (prefix_len-le-length is_word_byte (b ∷ bs)))
     (if_fine (length (b ∷ bs)) (b == 34) _ _ (λ e. string_fine (length bs) (body_at Plain bs) (body_no_nul Plain bs) (body_ended Plain bs)) tt))
 
 -- ---- all tokens
@@ -168,7 +155,7 @@ next_fine bytes from =
     let offset : ℕ = from + gap 0 (drop from bytes) in
     found_fine from offset (length bytes) (drop offset bytes) (token_at (drop offset bytes)) (omega arith) (length-drop offset bytes) (token_fine (drop offset bytes))
 
--- all are good, and behind an offset they take no more bytes than are left
+-- all are good, and after an offset they take no more bytes than are left
 abbrev pub AllFine : ℕ → ℕ → List TokenAt → Type 0
 AllFine from size ts = AllByRecursion IsGood (tokens_in ts) × (bytes_in (tokens_in ts) ≤ size - from)
 

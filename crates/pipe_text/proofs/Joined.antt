@@ -1,4 +1,4 @@
--- Declarations behind others: their counts, their names and the bounds.
+-- Declarations after others: their counts, their names and the bounds.
 use Rattle.std.proofs.Common.{◌≡◌, ℕ, ◌+◌, ◌-◌, ◌≤◌, ◌<◌, Bool, true, false, List, [], ◌∷◌, ◌++◌, refl, sym, ◌∙◌, arith, inl, inr}
 use Rattle.std.specs.Prelude.{◌⊎◌, ◌||◌, ◌&&◌, not}
 use Rattle.std.specs.List.{IsDistinct, AllByRecursion, list_any}
@@ -6,10 +6,10 @@ use Rattle.pipe_text.specs.declared.declaration.Declaration.{Declaration}
 use Rattle.pipe_text.specs.declared.declaration.Declaration.TheVariants.{Input, Pool, Client, Worker, Op, Node}
 use Rattle.pipe_text.specs.declared.words.DeclWord.{DeclWord}
 use Rattle.pipe_text.specs.declared.words.DeclWord.TheVariants as decl
-use Rattle.pipe_text.specs.Standing.{terms_of, total, one_of, count_of, same_name}
-use Rattle.pipe_text.specs.FileReading.{Bounds, Seen, seen_in}
-use Rattle.pipe_text.specs.Looking.{word_of}
-pub use Rattle.pipe_text.specs.Firsts.{Sound}
+use Rattle.pipe_text.specs.Files.{terms_of, total, one_of, count_of, same_name}
+use Rattle.pipe_text.specs.inside.FileReading.{Bounds, Seen, seen_in}
+use Rattle.pipe_text.specs.inside.Known.{word_of}
+pub use Rattle.pipe_text.specs.FirstFault.{Sound}
 
 -- whether a declaration of this kind and name is known, for a client one of the same pool
 abbrev pub is_known : Seen → Declaration → Bool
@@ -20,7 +20,7 @@ is_known seen (Worker d) = seen.named decl.Worker d.name
 is_known seen (Op d) = seen.named decl.Op d.name
 is_known seen (Node d n) = seen.named decl.Node d.name
 
--- a declaration behind those that are known keeps the bounds
+-- a declaration after those that are known keeps the bounds
 pub record Fits (b : Bounds) (seen : Seen) (d : Declaration) : Type 0 where
   pub room : seen.count (word_of d) < b.most (word_of d)
   pub free : (not b.twice && is_known seen d) ≡ false

@@ -15,17 +15,17 @@ use Rattle.pipe_text.specs.declared.declaration.Declaration.{Declaration}
 use Rattle.pipe_text.specs.declared.declaration.Declaration.TheVariants.{Input, Pool, Client, Worker, Op, Node}
 use Rattle.pipe_text.specs.declared.declarations.Declarations.{Declarations}
 use Rattle.pipe_text.specs.declared.fault.Fault.TheVariants.{Lex}
-use Rattle.pipe_text.specs.declared.fault.Unread.{Unread}
-use Rattle.pipe_text.specs.declared.fault.Unread.TheVariants.{NoMemory, At}
+use Rattle.pipe_text.specs.declared.fault.TakeError.{TakeError}
+use Rattle.pipe_text.specs.declared.fault.TakeError.TheVariants.{NoMemory, At}
 use Rattle.pipe_text.specs.declared.words.DeclWord.{DeclWord}
 use Rattle.pipe_text.specs.declared.words.DeclWord.TheVariants as decl
-use Rattle.pipe_text.specs.Standing.{input_in, pool_in, client_in, worker_in, op_in, node_in, program_of, terms_of, one_of, count_of, has_name, has_pair}
-use Rattle.pipe_text.specs.Readers.{Fails}
-use Rattle.pipe_text.specs.FileReading.{Bounds, seen_in, decl_at, decls_at, all_at, made}
-use Rattle.pipe_text.specs.Looking.{count_in, named_in, is_named, paired_in, seen_of, word_of, name_of, with_declaration, Knows}
-use Rattle.pipe_text.proofs.Finding.{is_equal}
+use Rattle.pipe_text.specs.Files.{input_in, pool_in, client_in, worker_in, op_in, node_in, program_of, terms_of, one_of, count_of, has_name, has_pair}
+use Rattle.pipe_text.specs.inside.Readers.{Fails}
+use Rattle.pipe_text.specs.inside.FileReading.{Bounds, seen_in, decl_at, decls_at, all_at, made}
+use Rattle.pipe_text.specs.inside.Known.{count_in, named_in, is_named, paired_in, seen_of, word_of, name_of, with_declaration, Knows}
 use Rattle.pipe_text.proofs.Joined.{total-append}
 use Rattle.pipe_text.proofs.FileFinds.{shorter, enough}
+use Rattle.value_core.proofs.Basics.{nat_is}
 
 -- ---- counts, names and pairs of a program's declarations
 
@@ -130,8 +130,8 @@ pair_is : (v : ℕ) (ds : List Declaration) (n q : List ℕ) → paired_in (prog
 pair_is v ds n q = any_all client_in (λ c. bytes_eq c.name n && bytes_eq c.pool q) (has_pair n q) (each_pair n q) ds
 
 -- what is known is what stands before
-pub seen_is : (v : ℕ) (before : List Declaration) (it : Declarations) → Knows v before it → seen_of it ≡ seen_in v before
-seen_is v before it k = λ i. record {
+pub seen_is : (v : ℕ) (before : List Declaration) (so_far : Declarations) → Knows v before so_far → seen_of so_far ≡ seen_in v before
+seen_is v before so_far k = λ i. record {
   version = ap (λ (p : Program). p.version) k.program i;
   count = λ w. (ap (λ (p : Program). count_in p w) k.program ∙ count_is v before w) i;
   named = λ w n. k.names w n i;
@@ -240,9 +240,9 @@ or_last false true = refl
 or_last false false = refl
 
 -- one declaration more
-pub known_more : (v : ℕ) (before : List Declaration) (it new : Declarations) (d : Declaration) → Knows v before it → new.program ≡ with_declaration it.program d
-    → ((w : DeclWord) (n : List ℕ) → named_in new.names w n ≡ (is_named (word_of d) (name_of d) w n || named_in it.names w n)) → new.terms ≡ it.terms + terms_of d → terms_of d ≤ 4096 - it.terms → Knows v (before ++ d ∷ []) new
-known_more v before it new d k program names terms fits = record {
+pub known_more : (v : ℕ) (before : List Declaration) (so_far new : Declarations) (d : Declaration) → Knows v before so_far → new.program ≡ with_declaration so_far.program d
+    → ((w : DeclWord) (n : List ℕ) → named_in new.names w n ≡ (is_named (word_of d) (name_of d) w n || named_in so_far.names w n)) → new.terms ≡ so_far.terms + terms_of d → terms_of d ≤ 4096 - so_far.terms → Knows v (before ++ d ∷ []) new
+known_more v before so_far new d k program names terms fits = record {
   program = program ∙ ap (λ (p : Program). with_declaration p d) k.program ∙ program_more v before d;
   names = λ w n. names w n ∙ (λ i. named_is w n d i || k.names w n i) ∙ or_last (has_name w n d) (list_any (has_name w n) before) ∙ sym (list_any-append (has_name w n) before (d ∷ []));
   terms = let before_terms = k.terms in let sum = total-append terms_of before (d ∷ []) in omega (arith, terms, before_terms, sum);
@@ -258,14 +258,14 @@ all_step b v before d s (t ∷ ts) rest e =
     let less = shorter b (seen_in v before) d s (t ∷ ts) rest e in
     rw e (enough b v (length rest) (length ts) (before ++ d ∷ []) s rest (omega arith) (omega (arith, less)))
 
-pub all_err : (b : Bounds) (v : ℕ) (before : List Declaration) (s : Stop) (ts : List TokenAt) (e : Unread) → false ≡ (length ts == 0) → Fails e (decl_at b (seen_in v before) s ts) → Fails e (made v (all_at b v before s ts))
+pub all_err : (b : Bounds) (v : ℕ) (before : List Declaration) (s : Stop) (ts : List TokenAt) (e : TakeError) → false ≡ (length ts == 0) → Fails e (decl_at b (seen_in v before) s ts) → Fails e (made v (all_at b v before s ts))
 unfolding all_at decls_at
 all_err b v before s ts NoMemory some h = tt
 all_err b v before s [] (At f) some h = absurd cc
 all_err b v before s (t ∷ ts) (At f) some h = rw h refl
 
 no_tokens : (n : ℕ) → true ≡ (n == 0) → n ≡ 0
-no_tokens n e = is_equal n 0 (sym e)
+no_tokens n e = nat_is n 0 (sym e)
 
 nothing_left : (b : Bounds) (v : ℕ) (before : List Declaration) (offset : ℕ) → all_at b v before (stop.Lex offset) [] ≡ Err (Lex offset)
 unfolding all_at decls_at

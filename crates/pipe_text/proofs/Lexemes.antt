@@ -17,20 +17,14 @@ use Rattle.value_core.specs.Pieces.{Piece, plain, short, hex, spelled, meant, is
 use Rattle.value_core.specs.Printed.{escape, escaped, hex_escape, quoted}
 use Rattle.value_core.specs.Strings.{is_hex, hex_value, is_control, body_at}
 use Rattle.value_core.specs.Texts.{no_nul}
-use Rattle.value_core.specs.Names.{is_letter, is_word_byte}
+use Rattle.value_core.specs.Names.{is_letter, is_name, is_word_byte}
 use Rattle.value_core.specs.Tokens.{is_mark, number_of, number_token, word_token, sized, string_at, token_at}
-use Rattle.value_core.proofs.Bodies.{body_all}
-use Rattle.term_core.specs.Limits.{is_name, is_text}
+use Rattle.value_core.proofs.Bodies.{body_all, plain_right}
+use Rattle.term_core.specs.Limits.{is_text}
 use Rattle.pipe_text.specs.Printing.{token_text}
 use Rattle.pipe_text.proofs.GoodTokens.{IsGood}
 use Rattle.pipe_text.proofs.TermTokens.{IsShort}
-
-and_parts : (a b : Bool) → (a && b) ≡ true → (a ≡ true) × (b ≡ true)
-and_parts true b e = (refl, e)
-and_parts false b e = absurd cc
-
-and_of : (a b : Bool) → a ≡ true → b ≡ true → (a && b) ≡ true
-and_of a b e h = rw (e, h) refl
+use Rattle.value_core.proofs.Basics.{and_both, and_parts, is_nat_lt, nat_is, nat_lt_is}
 
 -- ---- words
 
@@ -55,7 +49,7 @@ not_mark b e = grind (arith, nat_tests)
 
 word_read : (b : ℕ) (bs rest : List ℕ) (k : Token) → is_word_byte b ≡ true → list_all is_word_byte bs ≡ true → Stops is_word_byte rest → word_token (b ∷ bs) ≡ Some k → token_at ((b ∷ bs) ++ rest) ≡ Some (k, length (b ∷ bs))
 word_read b bs rest k first more stops e =
-    let n : prefix_len is_word_byte (b ∷ (bs ++ rest)) ≡ length (b ∷ bs) = run_is is_word_byte (b ∷ bs) rest (and_of (is_word_byte b) (list_all is_word_byte bs) first more) stops in
+    let n : prefix_len is_word_byte (b ∷ (bs ++ rest)) ≡ length (b ∷ bs) = run_is is_word_byte (b ∷ bs) rest (and_both (is_word_byte b) (list_all is_word_byte bs) first more) stops in
     let t : take (length (b ∷ bs)) ((b ∷ bs) ++ rest) ≡ b ∷ bs = take_at (b ∷ bs) rest (length (b ∷ bs)) refl in
     second_case (is_mark b) (is_word_byte b) _ _ _ (not_mark b first) first ∙ ap (λ (m : ℕ). sized (word_token (take m (b ∷ (bs ++ rest)))) m) n ∙ ap (λ (l : List ℕ). sized (word_token l) (length (b ∷ bs))) t
     ∙ ap (λ (o : Option Token). sized o (length (b ∷ bs))) e
@@ -83,7 +77,7 @@ digit_word b e = (grind (arith, nat_tests), grind (arith, nat_tests))
 
 digits_word : (ds : List ℕ) → all_ascii_digits ds ≡ true → list_all is_word_byte ds ≡ true
 digits_word [] e = refl
-digits_word (b ∷ bs) e = let p = and_parts (is_ascii_digit b) (all_ascii_digits bs) e in and_of (is_word_byte b) (list_all is_word_byte bs) (digit_word b p.0).0 (digits_word bs p.1)
+digits_word (b ∷ bs) e = let p = and_parts (is_ascii_digit b) (all_ascii_digits bs) e in and_both (is_word_byte b) (list_all is_word_byte bs) (digit_word b p.0).0 (digits_word bs p.1)
 
 digits_token : (letter : Bool) (x : Option Token) (o : Option ℕ) (n : ℕ) → letter ≡ false → o ≡ Some n → cond letter x (number_token o) ≡ Some (Number n)
 digits_token letter x o n e h = rw (e, h) refl
@@ -95,8 +89,8 @@ digits_read (b ∷ bs) rest n digits e stops =
     let first = digit_word b p.0 in
     word_read b bs rest (Number n) first.0 (digits_word bs p.1) stops (digits_token (is_letter b) _ (number_of (b ∷ bs)) n first.1 e)
 
-all_three : (digits zero_first single below : Bool) (n : ℕ) → digits ≡ true → zero_first ≡ false → below ≡ true → cond (digits && ((not zero_first || single) && below)) (Some n) None ≡ Some n
-all_three digits zero_first single below n e h g = rw (e, h, g) refl
+all_three : (digits zero_first single nat_lt_is : Bool) (n : ℕ) → digits ≡ true → zero_first ≡ false → nat_lt_is ≡ true → cond (digits && ((not zero_first || single) && nat_lt_is)) (Some n) None ≡ Some n
+all_three digits zero_first single nat_lt_is n e h g = rw (e, h, g) refl
 
 not_zero : (b : ℕ) → 48 < b → (b == 48) ≡ false
 not_zero b h = grind (arith, nat_tests)
@@ -106,21 +100,18 @@ number_some [] n digits first e bits = absurd (omega (arith, first))
 number_some (b ∷ bs) n digits first e bits =
     all_three (all_ascii_digits (b ∷ bs)) (b == 48) (nat_lt (length bs) 1) (nat_lt (digits_value 10 (b ∷ bs)) (2 ^ 64)) (digits_value 10 (b ∷ bs)) digits (not_zero b first) (ap (λ (m : ℕ). nat_lt m (2 ^ 64)) e ∙ bits) ∙ ap (λ (m : ℕ). Some m) e
 
-below : (m n : ℕ) → nat_lt m n ≡ true → m < n
-below m n e = grind (arith, nat_tests)
-
 zero_number : (ds : List ℕ) → ds ≡ 48 ∷ [] → number_of ds ≡ Some 0
 zero_number ds e = rw e refl
 
 decimal_number : (n : ℕ) → nat_lt n (2 ^ 64) ≡ true → number_of (decimal n) ≡ Some n
 decimal_number zero bits = zero_number (decimal 0) (decimal_digit 0 (omega arith))
 decimal_number (suc n) bits =
-    let small = below (suc n) (2 ^ 64) bits in
+    let small = nat_lt_is (suc n) (2 ^ 64) bits in
     let own = numerals_by_value _ tells_all_ascii_digits in
     number_some (decimal (suc n)) (suc n) (digits_decimal own (suc n) small) (first_decimal (suc n) (omega arith) small) (digits_value-decimal own (suc n) small) bits
 
 number_read : (n : ℕ) (rest : List ℕ) → nat_lt n (2 ^ 64) ≡ true → Stops is_word_byte rest → token_at (decimal n ++ rest) ≡ Some (Number n, length (decimal n))
-number_read n rest bits stops = digits_read (decimal n) rest n (digits_decimal (numerals_by_value _ tells_all_ascii_digits) n (below n (2 ^ 64) bits)) (decimal_number n bits) stops
+number_read n rest bits stops = digits_read (decimal n) rest n (digits_decimal (numerals_by_value _ tells_all_ascii_digits) n (nat_lt_is n (2 ^ 64) bits)) (decimal_number n bits) stops
 
 -- ---- strings
 
@@ -132,9 +123,6 @@ if_spelling : (b : ℕ) (t : Bool) (x y : List ℕ) → (t ≡ true → Spelling
 if_spelling b true x y f g = f refl
 if_spelling b false x y f g = g refl
 
-is_equal : (m n : ℕ) → (m == n) ≡ true → m ≡ n
-is_equal m n e = grind (arith, nat_tests)
-
 glyph_right : (v : ℕ) → v < 16 → (is_hex (digit_glyph false v) ≡ true) × (hex_value (digit_glyph false v) ≡ v)
 glyph_right v h = (grind (arith, nat_tests), grind (arith, nat_tests))
 
@@ -144,12 +132,9 @@ control_parts b e = (grind (arith, nat_tests), omega arith, omega arith)
 control_is : (b : ℕ) → (b == 0) ≡ false → (nat_lt b 32 || b == 127) ≡ true → is_control b ≡ true
 control_is b some e = grind (arith, nat_tests)
 
-below_is : (m n : ℕ) → m < n → nat_lt m n ≡ true
-below_is m n h = grind (arith, nat_tests)
-
 hex_right : (h l m n b : ℕ) → is_hex h ≡ true → is_hex l ≡ true → hex_value h ≡ m → hex_value l ≡ n → nat_lt m 8 ≡ true → 16 * m + n ≡ b → is_control b ≡ true → (is_right (hex h l) ≡ true) × (meant (hex h l) ≡ b)
 hex_right h l m n b e1 e2 e3 e4 small is control = (
-  and_of (is_hex h) _ e1 (and_of (is_hex l) _ e2 (and_of (nat_lt (hex_value h) 8) _ (ap (λ (x : ℕ). nat_lt x 8) e3 ∙ small) (ap is_control ((λ i. 16 * e3 i + e4 i) ∙ is) ∙ control))),
+  and_both (is_hex h) _ e1 (and_both (is_hex l) _ e2 (and_both (nat_lt (hex_value h) 8) _ (ap (λ (x : ℕ). nat_lt x 8) e3 ∙ small) (ap is_control ((λ i. 16 * e3 i + e4 i) ∙ is) ∙ control))),
   (λ i. 16 * e3 i + e4 i) ∙ is,
 )
 
@@ -159,20 +144,17 @@ control_spelling b some e =
     let p = control_parts b e in
     let h = glyph_right (b / 16) (let q = p.0 in omega (arith, q)) in
     let l = glyph_right (b % 16) p.1 in
-    let right = hex_right (digit_glyph false (b / 16)) (digit_glyph false (b % 16)) (b / 16) (b % 16) b h.0 l.0 h.1 l.1 (below_is (b / 16) 8 p.0) p.2 (control_is b some e) in
+    let right = hex_right (digit_glyph false (b / 16)) (digit_glyph false (b % 16)) (b / 16) (b % 16) b h.0 l.0 h.1 l.1 (is_nat_lt (b / 16) 8 p.0) p.2 (control_is b some e) in
     (hex (digit_glyph false (b / 16)) (digit_glyph false (b % 16)), refl, right.0, right.1)
-
-plain_right : (b : ℕ) → (b == 34) ≡ false → (b == 92) ≡ false → (nat_lt b 32 || b == 127) ≡ false → is_right (plain b) ≡ true
-plain_right b q s c = grind (arith, nat_tests, q, s, c)
 
 byte_spelling : (b : ℕ) → (b == 0) ≡ false → Spelling b (escape b)
 unfolding Spelling
 byte_spelling b some =
-    if_spelling b (b == 34) _ _ (λ e. (short 34, refl, refl, sym (is_equal b 34 e)))
-    (λ q. if_spelling b (b == 92) _ _ (λ e. (short 92, refl, refl, sym (is_equal b 92 e)))
-    (λ s. if_spelling b (b == 10) _ _ (λ e. (short 110, refl, refl, sym (is_equal b 10 e)))
-    (λ n. if_spelling b (b == 9) _ _ (λ e. (short 116, refl, refl, sym (is_equal b 9 e)))
-    (λ t. if_spelling b (b == 13) _ _ (λ e. (short 114, refl, refl, sym (is_equal b 13 e)))
+    if_spelling b (b == 34) _ _ (λ e. (short 34, refl, refl, sym (nat_is b 34 e)))
+    (λ q. if_spelling b (b == 92) _ _ (λ e. (short 92, refl, refl, sym (nat_is b 92 e)))
+    (λ s. if_spelling b (b == 10) _ _ (λ e. (short 110, refl, refl, sym (nat_is b 10 e)))
+    (λ n. if_spelling b (b == 9) _ _ (λ e. (short 116, refl, refl, sym (nat_is b 9 e)))
+    (λ t. if_spelling b (b == 13) _ _ (λ e. (short 114, refl, refl, sym (nat_is b 13 e)))
     (λ r. if_spelling b (nat_lt b 32 || b == 127) _ _ (λ e. control_spelling b some e) (λ c. (plain b, refl, plain_right b q s c, refl)))))))
 
 -- pieces that stand for a text, and spell it as it is printed
@@ -185,7 +167,7 @@ no_bytes = ([], refl, refl, refl)
 
 one_more_byte : (b : ℕ) (t : List ℕ) → Spelling b (escape b) → Spellings t → Spellings (b ∷ t)
 unfolding Spelling Spellings
-one_more_byte b t (p, is, right, means) (ps, are, rights, mean) = (p ∷ ps, (λ i. is i ++ are i), and_of (is_right p) (list_all is_right ps) right rights, (λ i. means i ∷ mean i))
+one_more_byte b t (p, is, right, means) (ps, are, rights, mean) = (p ∷ ps, (λ i. is i ++ are i), and_both (is_right p) (list_all is_right ps) right rights, (λ i. means i ∷ mean i))
 
 is_false : (b : Bool) → not b ≡ true → b ≡ false
 is_false true e = absurd cc
@@ -210,7 +192,7 @@ string_read t rest few utf8 clean =
 
 -- ---- any token
 
--- behind a name or a number no byte of a word stands
+-- after a name or a number no byte of a word stands
 abbrev pub MayFollow : Token → List ℕ → Type 0
 MayFollow (Name n) rest = Stops is_word_byte rest
 MayFollow (Number n) rest = Stops is_word_byte rest

@@ -7,10 +7,10 @@ use Rattle.pipe_text.specs.declared.fault.Fault.{Fault}
 use Rattle.pipe_text.specs.declared.fault.Fault.TheVariants.{Lex, Syntax, Limit, Duplicate}
 use Rattle.value_core.specs.declared.lexing.Stop.{Stop}
 use Rattle.value_core.specs.Literals.{tokens_in}
-use Rattle.pipe_text.specs.Readers.{◌>>=◌, Reader, fault_of, give, seq, Choice, go, branch, peek, next_passes}
+use Rattle.pipe_text.specs.inside.Readers.{◌>>=◌, Reader, fault_of, give, seq, Choice, go, branch, peek, next_passes}
 use Rattle.pipe_text.specs.LimitTable.{number_of}
-use Rattle.pipe_text.specs.FileReading.{Bounds}
-use Rattle.pipe_text.specs.Firsts.{Begins, GoesOn}
+use Rattle.pipe_text.specs.inside.FileReading.{Bounds}
+use Rattle.pipe_text.specs.FirstFault.{Begins, GoesOn}
 use Rattle.pipe_text.proofs.Exactly.{tokens_in-append}
 use Rattle.pipe_text.proofs.Finding.{bind_ok, Nothing, Then, Either}
 use Rattle.pipe_text.proofs.Wider.{Wider, Up, wider_refl, up_refl}

@@ -9,9 +9,9 @@ use Rattle.pipe_text.specs.declared.declaration.Declaration.{Declaration}
 use Rattle.pipe_text.specs.declared.words.DeclWord.{DeclWord}
 use Rattle.pipe_text.specs.LimitTable.{number_of}
 use Rattle.pipe_text.specs.FileGrammar.{DeclareAll}
-use Rattle.pipe_text.specs.FileReading.{pipeline_of}
+use Rattle.pipe_text.specs.inside.FileReading.{pipeline_of}
 use Rattle.pipe_text.specs.Printing.{line_text, lines_of, pipeline_text}
-use Rattle.pipe_text.specs.Standing.{file_limits, program_of, one_of, count_of, limit_of, terms_of, all_terms, same_name, IsSpelled, StandsFor, IsGiven}
+use Rattle.pipe_text.specs.Files.{file_limits, program_of, one_of, count_of, limit_of, terms_of, all_terms, same_name, IsSpelled, IsFileOf, HasSpelling}
 use Rattle.pipe_text.proofs.ByKind.{decl_tokens, by_kind, kinds_each, kinds_distinct, kinds_total, kinds_program, kinds_lines}
 use Rattle.pipe_text.proofs.DeclTokens.{IsPrinted, all_declared}
 use Rattle.pipe_text.proofs.GoodTokens.{IsGood, all_good}
@@ -55,7 +55,7 @@ lines_spell p v ds lines e version is printed few few_terms apart =
     }
 
 -- the printed bytes spell the program
-pub printed_spells : (p : Program) → IsGiven p → IsSpelled (pipeline_text p) p
+pub printed_spells : (p : Program) → HasSpelling p → IsSpelled (pipeline_text p) p
 unfolding pipeline_text
 printed_spells p given =
     let s = given.spelling in
@@ -65,10 +65,10 @@ printed_spells p given =
     lines_spell p s.version sorted (lines_of p) (ap lines_of s.is ∙ lines_are s.version s.declarations) s.spelled.0 (s.is ∙ sym (kinds_program s.version s.declarations)) (kinds_each (IsPrinted s.version) s.declarations printed)
     (λ w. subst (λ (n : ℕ). n ≤ number_of (limit_of w)) (sym (kinds_total (one_of w) s.declarations)) (s.few w)) (subst (λ (n : ℕ). n ≤ 4096) (sym (kinds_total terms_of s.declarations)) s.few_terms) (kinds_distinct s.declarations s.apart)
 
-pub printed_stands : (p : Program) → IsGiven p → length (pipeline_text p) ≤ 1048576 → StandsFor (pipeline_text p) p
+pub printed_stands : (p : Program) → HasSpelling p → length (pipeline_text p) ≤ 1048576 → IsFileOf (pipeline_text p) p
 printed_stands p given few = record { few_bytes = few; spelling = printed_spells p given }
 
 -- and reading gives it back
-pub printed_read : (p : Program) → IsGiven p → length (pipeline_text p) ≤ 1048576 → pipeline_of (pipeline_text p) ≡ Ok p
+pub printed_read : (p : Program) → HasSpelling p → length (pipeline_text p) ≤ 1048576 → pipeline_of (pipeline_text p) ≡ Ok p
 unfolding pipeline_of
 printed_read p given few = rw (standing_read (pipeline_text p) p (printed_stands p given few)) refl

@@ -68,7 +68,7 @@ next_end front =
 blank_gap : (b : ℕ) (l : List ℕ) → is_blank b ≡ true → gap 0 (b ∷ l) ≡ 1 + gap 0 l
 blank_gap b l e = rw e refl
 
--- behind a blank the same token comes
+-- after a blank the same token comes
 next_blank : (front : List ℕ) (b : ℕ) (l : List ℕ) → is_blank b ≡ true → next_at (front ++ b ∷ l) (length front) ≡ next_at ((front ++ b ∷ []) ++ l) (length (front ++ b ∷ []))
 next_blank front b l e =
     let one_more : length (front ++ b ∷ []) ≡ length front + 1 = length-append front (b ∷ []) in
@@ -79,19 +79,19 @@ next_blank front b l e =
 
 -- ---- all tokens
 
-abbrev Gives : ℕ → List Token → Tokens → Type 0
-Gives size ks t = (tokens_in t.tokens ≡ ks) × (t.stop ≡ stop.End size)
+abbrev Returns : ℕ → List Token → Tokens → Type 0
+Returns size ks t = (tokens_in t.tokens ≡ ks) × (t.stop ≡ stop.End size)
 
 -- Whatever stands before, from here on the bytes are read as these tokens.
 pub record Lexes (l : List ℕ) (ks : List Token) : Type 0 where
-  pub lexes : (front : List ℕ) (n : ℕ) → length l < n → Gives (length (front ++ l)) ks (lexed_from n (front ++ l) (length front))
+  pub lexes : (front : List ℕ) (n : ℕ) → length l < n → Returns (length (front ++ l)) ks (lexed_from n (front ++ l) (length front))
 
 -- what is read by what comes next
-gives_next : (front l : List ℕ) (n : ℕ) (r : Result Next ℕ) (ks : List Token) → next_at (front ++ l) (length front) ≡ r → Gives (length (front ++ l)) ks (lexed_next (length (front ++ l)) r (lexed_from n (front ++ l)))
-    → Gives (length (front ++ l)) ks (lexed_from (suc n) (front ++ l) (length front))
-gives_next front l n r ks e h = subst (λ (x : Result Next ℕ). Gives (length (front ++ l)) ks (lexed_next (length (front ++ l)) x (lexed_from n (front ++ l)))) (sym e) h
+gives_next : (front l : List ℕ) (n : ℕ) (r : Result Next ℕ) (ks : List Token) → next_at (front ++ l) (length front) ≡ r → Returns (length (front ++ l)) ks (lexed_next (length (front ++ l)) r (lexed_from n (front ++ l)))
+    → Returns (length (front ++ l)) ks (lexed_from (suc n) (front ++ l) (length front))
+gives_next front l n r ks e h = subst (λ (x : Result Next ℕ). Returns (length (front ++ l)) ks (lexed_next (length (front ++ l)) x (lexed_from n (front ++ l)))) (sym e) h
 
-raw_end : (front : List ℕ) (n : ℕ) → length {A = ℕ} [] < n → Gives (length (front ++ [])) [] (lexed_from n (front ++ []) (length front))
+raw_end : (front : List ℕ) (n : ℕ) → length {A = ℕ} [] < n → Returns (length (front ++ [])) [] (lexed_from n (front ++ []) (length front))
 raw_end front zero h = absurd (omega (arith, h))
 raw_end front (suc n) h = gives_next front [] n (Ok End) [] (next_end front) (refl, refl)
 
@@ -99,11 +99,11 @@ lex_end : Lexes [] []
 lex_end = record { lexes = raw_end }
 
 -- the same bytes and offset, put otherwise
-gives_moved : (bytes other : List ℕ) (from to n : ℕ) (ks : List Token) → bytes ≡ other → from ≡ to → Gives (length bytes) ks (lexed_from n bytes from) → Gives (length other) ks (lexed_from n other to)
-gives_moved bytes other from to n ks e h g = subst (λ (m : ℕ). Gives (length other) ks (lexed_from n other m)) h (subst (λ (b : List ℕ). Gives (length b) ks (lexed_from n b from)) e g)
+gives_moved : (bytes other : List ℕ) (from to n : ℕ) (ks : List Token) → bytes ≡ other → from ≡ to → Returns (length bytes) ks (lexed_from n bytes from) → Returns (length other) ks (lexed_from n other to)
+gives_moved bytes other from to n ks e h g = subst (λ (m : ℕ). Returns (length other) ks (lexed_from n other m)) h (subst (λ (b : List ℕ). Returns (length b) ks (lexed_from n b from)) e g)
 
 raw_token : (text rest : List ℕ) (k : Token) (ks : List Token) → 0 < length text → token_at (text ++ rest) ≡ Some (k, length text) → Lexes rest ks
-    → (front : List ℕ) (n : ℕ) → length (text ++ rest) < n → Gives (length (front ++ (text ++ rest))) (k ∷ ks) (lexed_from n (front ++ (text ++ rest)) (length front))
+    → (front : List ℕ) (n : ℕ) → length (text ++ rest) < n → Returns (length (front ++ (text ++ rest))) (k ∷ ks) (lexed_from n (front ++ (text ++ rest)) (length front))
 raw_token text rest k ks some e more front zero h = absurd (omega (arith, h))
 raw_token text rest k ks some e more front (suc n) h =
     let size = length-append text rest in
@@ -114,14 +114,14 @@ raw_token text rest k ks some e more front (suc n) h =
 lex_token : (text rest : List ℕ) (k : Token) (ks : List Token) → 0 < length text → token_at (text ++ rest) ≡ Some (k, length text) → Lexes rest ks → Lexes (text ++ rest) (k ∷ ks)
 lex_token text rest k ks some e more = record { lexes = raw_token text rest k ks some e more }
 
-raw_blank : (b : ℕ) (rest : List ℕ) (ks : List Token) → is_blank b ≡ true → Lexes rest ks → (front : List ℕ) (n : ℕ) → length (b ∷ rest) < n → Gives (length (front ++ b ∷ rest)) ks (lexed_from n (front ++ b ∷ rest) (length front))
+raw_blank : (b : ℕ) (rest : List ℕ) (ks : List Token) → is_blank b ≡ true → Lexes rest ks → (front : List ℕ) (n : ℕ) → length (b ∷ rest) < n → Returns (length (front ++ b ∷ rest)) ks (lexed_from n (front ++ b ∷ rest) (length front))
 raw_blank b rest ks e more front zero h = absurd (omega (arith, h))
 raw_blank b rest ks e more front (suc n) h =
     let there : List ℕ = (front ++ b ∷ []) ++ rest in
     let later = more.lexes (front ++ b ∷ []) (suc n) (omega (arith, h)) in
     let whole = append_assoc front (b ∷ []) rest in
     gives_next front (b ∷ rest) n (next_at there (length (front ++ b ∷ []))) ks (next_blank front b rest e)
-    (subst (λ (l : List ℕ). Gives (length l) ks (lexed_next (length l) (next_at there (length (front ++ b ∷ []))) (lexed_from n l))) whole later)
+    (subst (λ (l : List ℕ). Returns (length l) ks (lexed_next (length l) (next_at there (length (front ++ b ∷ []))) (lexed_from n l))) whole later)
 
 lex_blank : (b : ℕ) (rest : List ℕ) (ks : List Token) → is_blank b ≡ true → Lexes rest ks → Lexes (b ∷ rest) ks
 lex_blank b rest ks e more = record { lexes = raw_blank b rest ks e more }
@@ -139,7 +139,7 @@ or_false false = refl
 closing_byte : (b : ℕ) → ((b == 41 || (b == 93 || b == 44)) || false) ≡ true → is_word_byte b ≡ false
 closing_byte b e = grind (arith, nat_tests)
 
--- behind a word a space, a mark or the rest stands
+-- after a word a space, a mark or the rest stands
 spaced_stops : (ks : List Token) (rest : List ℕ) → Stops is_word_byte rest → Stops is_word_byte (spaced false ks ++ rest)
 spaced_stops [] rest h = h
 spaced_stops (Mark b ∷ ks) rest h = spaced_mark ((b == 41 || (b == 93 || b == 44)) || false) b ks rest (closing_byte b)

@@ -11,12 +11,12 @@ use Rattle.pipe_text.specs.declared.words.BodyWord.TheVariants as word
 use Rattle.pipe_text.specs.Grammar.{form}
 use Rattle.pipe_text.specs.Printing.{term_tokens, term_tokens_step, space_before, token_text, opens, spaced, line_text, with_token, after, with_end, after_lines}
 
--- tokens behind tokens
+-- tokens after tokens
 pub after_both : (s : List ℕ × Bool) (ks ls : List Token) → after s (ks ++ ls) ≡ after (after s ks) ls
 after_both s [] ls = refl
 after_both s (k ∷ ks) ls = after_both (with_token k s) ks ls
 
--- lines behind lines
+-- lines after lines
 pub lines_both : (s : List ℕ × Bool) (ks ls : List (List Token)) → after_lines s (ks ++ ls) ≡ after_lines (after_lines s ks) ls
 lines_both s [] ls = refl
 lines_both s (k ∷ ks) ls = lines_both (with_end (after s k)) ks ls
@@ -41,7 +41,7 @@ lines_bytes b (ks ∷ ls) =
 pub all_lines : (ls : List (List Token)) → (after_lines ([], true) ls).0 ≡ flat_map line_text ls
 all_lines ls = lines_bytes [] ls
 
--- the tokens of the term at an index, and those of the terms behind it
+-- the tokens of the term at an index, and those of the terms after it
 pub next_term : (s : List ℕ × Bool) (t : Term) (ts : List Term) (i : ℕ) → i < length ts → t ≡ get_or ts i t
     → after (after s (term_tokens t)) (flat_map (λ (ks : List Token). ks) (map term_tokens (drop (i + 1) ts))) ≡ after s (flat_map (λ (ks : List Token). ks) (map term_tokens (drop i ts)))
 next_term s t [] i h e = absurd (omega (arith, h))

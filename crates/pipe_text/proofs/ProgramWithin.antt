@@ -13,13 +13,14 @@ use Rattle.op_keys.specs.declared.declarations.ClientDecl.{ClientDecl}
 use Rattle.op_keys.specs.declared.declarations.Expiry.{Expiry}
 use Rattle.term_core.specs.declared.program.Program.{Program}
 use Rattle.op_keys.specs.Names.{are_apart, same_client, are_clients_apart}
-use Rattle.term_core.specs.Limits.{is_name, is_text as fits_text, is_optional_text, fits_watch, terms_in, IsOffset, IsExpiryWithin, IsInputWithin, IsPoolWithin, IsClientWithin, IsWorkerWithin, IsOpWithin, IsNodeWithin, IsWithinLimits}
+use Rattle.value_core.specs.Names.{is_name}
+use Rattle.term_core.specs.Limits.{is_text as fits_text, is_optional_text, fits_watch, terms_in, IsOffset, IsExpiryWithin, IsInputWithin, IsPoolWithin, IsClientWithin, IsWorkerWithin, IsOpWithin, IsNodeWithin, IsWithinLimits}
 use Rattle.pipe_text.specs.declared.declaration.Declaration.{Declaration}
 use Rattle.pipe_text.specs.declared.declaration.Declaration.TheVariants.{Input, Pool, Client, Worker, Op, Node}
 use Rattle.pipe_text.specs.declared.declaration.InputValue.{InputValue}
-use Rattle.pipe_text.specs.declared.declaration.Keeping.{Keeping}
-use Rattle.pipe_text.specs.declared.declaration.Manner.{Manner}
-use Rattle.pipe_text.specs.declared.declaration.Where.{Where}
+use Rattle.pipe_text.specs.declared.declaration.Retention.{Retention}
+use Rattle.pipe_text.specs.declared.declaration.Settings.{Settings}
+use Rattle.pipe_text.specs.declared.declaration.Placement.{Placement}
 use Rattle.pipe_text.specs.declared.fault.LimitName.{LimitName}
 use Rattle.pipe_text.specs.declared.fault.LimitName.TheVariants as limit
 use Rattle.pipe_text.specs.declared.words.DeclWord.{DeclWord}
@@ -38,10 +39,10 @@ use Rattle.pipe_text.specs.FileGrammar.{
   is_text_value,
   is_num_value,
   is_list_value,
-  WhereIs,
-  is_where,
-  MannerIs,
-  is_manner,
+  PlacementIs,
+  is_placement,
+  SettingsAre,
+  is_settings,
   offset_of,
   OffsetIs,
   ExpiryIs,
@@ -49,9 +50,9 @@ use Rattle.pipe_text.specs.FileGrammar.{
   is_after,
   is_daily,
   is_monthly,
-  KeepingIs,
-  is_build_keeping,
-  is_output_keeping,
+  RetentionIs,
+  is_build_retention,
+  is_output_retention,
   RunIs,
   is_run,
   Declares,
@@ -63,11 +64,12 @@ use Rattle.pipe_text.specs.FileGrammar.{
   is_node_decl,
   DeclareAll,
 }
-use Rattle.pipe_text.specs.Standing.{file_limits, input_in, pool_in, client_in, worker_in, op_in, node_in, program_of, all_terms, count_of, same_name, limit_of, StandsFor}
-use Rattle.pipe_text.specs.Looking.{count_in}
+use Rattle.pipe_text.specs.Files.{file_limits, input_in, pool_in, client_in, worker_in, op_in, node_in, program_of, all_terms, count_of, same_name, limit_of, IsFileOf}
+use Rattle.pipe_text.specs.inside.Known.{count_in}
 use Rattle.pipe_text.proofs.GoodTokens.{Good, good_tokens, good_left, good_right, good_rest, good_first}
 use Rattle.pipe_text.proofs.TermWithin.{name_good, text_good, list_layer, list_light, words_layer, words_text_layer, words_light, num_layer, num_light, list_within, spelled_within}
 use Rattle.pipe_text.proofs.Knowing.{count_is}
+use Rattle.value_core.proofs.Basics.{and_both, is_nat_le}
 
 -- ---- numbers and parts
 
@@ -82,21 +84,15 @@ number_within what n (Mark m) e = absurd e
 number_within what n LongName e = absurd e
 number_within what n LongText e = absurd e
 
-and_of : (a b : Bool) → a ≡ true → b ≡ true → (a && b) ≡ true
-and_of a b e h = rw (e, h) refl
-
-at_most : (m n : ℕ) → m ≤ n → nat_le m n ≡ true
-at_most m n h = grind (arith, nat_tests)
-
 passes : (b : Bool) → b ≡ true → T b
 passes b e = subst T (sym e) tt
 
 west_within : (n : ℕ) → n ≤ 1080 → IsOffset (neg_ℤ (pos n))
 west_within zero h = record { west = record { le = tt }; east = record { le = tt } }
-west_within (suc n) h = record { west = record { le = passes (nat_le n 1079) (at_most n 1079 (omega (arith, h))) }; east = record { le = tt } }
+west_within (suc n) h = record { west = record { le = passes (nat_le n 1079) (is_nat_le n 1079 (omega (arith, h))) }; east = record { le = tt } }
 
 offset_within : (s : SideWord) (n : ℕ) → n ≤ 1080 → IsOffset (offset_of s n)
-offset_within side.East n h = record { west = record { le = tt }; east = record { le = passes (nat_le n 1080) (at_most n 1080 h) } }
+offset_within side.East n h = record { west = record { le = tt }; east = record { le = passes (nat_le n 1080) (is_nat_le n 1080 h) } }
 offset_within side.West n h = west_within n h
 
 an_offset_within : (o : ℤ) (ks : List Token) → OffsetIs file_limits o ks → IsOffset o
@@ -108,32 +104,32 @@ expiry_within v e ks (is_after n k l) = number_within limit.ValidFor n k l
 expiry_within v e ks (is_daily m o k ls two l x) = ((number_within limit.Minute m k l).1, an_offset_within o ls x)
 expiry_within v e ks (is_monthly d m o j k ls two y l x) = let day = number_within limit.Day d j y in (day.0, day.1, (number_within limit.Minute m k l).1, an_offset_within o ls x)
 
-keeping_within : (v : ℕ) (w : OpWord) (x : Keeping) (ks : List Token) → KeepingIs file_limits v w x ks → IsExpiryWithin x.expiry
-keeping_within v w x ks (is_build_keeping e l ke kl y f) = expiry_within v e ke y
-keeping_within v w x ks is_output_keeping = tt
+retention_within : (v : ℕ) (w : OpWord) (x : Retention) (ks : List Token) → RetentionIs file_limits v w x ks → IsExpiryWithin x.expiry
+retention_within v w x ks (is_build_retention e l ke kl y f) = expiry_within v e ke y
+retention_within v w x ks is_output_retention = tt
 
 optional_within : (letters : List ℕ) (o : Option (List ℕ)) (ks : List Token) → Optional letters (SomeText file_limits) None o ks → Good ks → is_optional_text o ≡ true
 optional_within letters o ks (is_given a more (t, k, is, parts, l)) g = rw is (text_good t k l (good_first k [] (subst Good parts (good_rest _ more g))))
 optional_within letters o ks is_absent g = refl
 
-manner_within : (x : Manner) (ks : List Token) → MannerIs file_limits x ks → Good ks → is_optional_text x.hint ≡ true
-manner_within x ks (is_manner h u l kh ku kl oh ou ol) g = optional_within _ h kh oh (good_left kh (ku ++ kl) g)
+settings_within : (x : Settings) (ks : List Token) → SettingsAre file_limits x ks → Good ks → is_optional_text x.hint ≡ true
+settings_within x ks (is_settings h u l kh ku kl oh ou ol) g = optional_within _ h kh oh (good_left kh (ku ++ kl) g)
 
 texts_good : (ts : List (List ℕ)) (ks : List Token) → Texts [] [] file_limits ts ks → Good ks → list_all fits_text ts ≡ true
 texts_good [] ks e g = refl
-texts_good (t ∷ ts) ks (k, more, parts, is, rest) g = let good : Good (k ∷ more) = subst Good parts g in and_of _ _ (text_good t k is (good_first k more good)) (texts_good ts more rest (good_rest k more good))
+texts_good (t ∷ ts) ks (k, more, parts, is, rest) g = let good : Good (k ∷ more) = subst Good parts g in and_both _ _ (text_good t k is (good_first k more good)) (texts_good ts more rest (good_rest k more good))
 
 abbrev RunWithin : List (List ℕ) → Type 0
 RunWithin ws = (1 ≤ length ws) × (length ws ≤ 64) × (list_all fits_text ws ≡ true)
 
 run_within : (ws : List (List ℕ)) (ks : List Token) → RunIs file_limits ws ks → Good ks → RunWithin ws
-run_within ws ks (is_run t ts k more l few rest) g = let good = good_rest _ (k ∷ more) g in (omega arith, omega (arith, few), and_of _ _ (text_good t k l (good_first k more good)) (texts_good ts more rest (good_rest k more good)))
+run_within ws ks (is_run t ts k more l few rest) g = let good = good_rest _ (k ∷ more) g in (omega arith, omega (arith, few), and_both _ _ (text_good t k l (good_first k more good)) (texts_good ts more rest (good_rest k more good)))
 
 abbrev ValueWithin : InputValue → Type 0
 ValueWithin v = (fits_watch v.watch v.value ≡ true) × (weight_of v.value ≤ 1048576)
 
 watch_within : (t : List ℕ) (w : Option (List ℕ)) (ks : List Token) → fits_text t ≡ true → Optional (codes "watch") (SomeText file_limits) None w ks → Good ks → fits_watch w (value.Words t) ≡ true
-watch_within t w ks e (is_given a more (p, k, is, parts, l)) g = rw is (and_of _ _ (text_good p k l (good_first k [] (subst Good parts (good_rest _ more g)))) (words_text_layer t e))
+watch_within t w ks e (is_given a more (p, k, is, parts, l)) g = rw is (and_both _ _ (text_good p k l (good_first k [] (subst Good parts (good_rest _ more g)))) (words_text_layer t e))
 watch_within t w ks e is_absent g = words_layer t e
 
 value_within : (v : InputValue) (ks : List Token) → ValueIs file_limits v ks → Good ks → ValueWithin v
@@ -154,14 +150,14 @@ DeclWithin (Worker d) = IsWorkerWithin d
 DeclWithin (Op d) = IsOpWithin d
 DeclWithin (Node d n) = IsNodeWithin d × (terms_in d.term ≡ n)
 
-record WhereWithin (p : Where) : Type 0 where
+record PlacementWithin (p : Placement) : Type 0 where
   pub pool : is_name p.pool ≡ true
   pub client : is_name p.client ≡ true
   pub full : p.full ≤ 1000000
   pub cached : p.cached ≤ 1000000
 
-where_within : (p : Where) (ks : List Token) → WhereIs file_limits p ks → Good ks → WhereWithin p
-where_within p ks (is_where q c m n kp kc km kn np nc nm nn) g =
+placement_within : (p : Placement) (ks : List Token) → PlacementIs file_limits p ks → Good ks → PlacementWithin p
+placement_within p ks (is_placement q c m n kp kc km kn np nc nm nn) g =
     let one_good = good_rest _ (kp ∷ _) g in
     let two_good = good_rest _ (kc ∷ _) (good_rest kp _ one_good) in
     record { pool = name_good q kp np (good_first kp _ one_good); client = name_good c kc nc (good_first kc _ two_good); full = (number_within limit.Cost m km nm).1; cached = (number_within limit.Cost n kn nn).1 }
@@ -186,7 +182,7 @@ declares_within v d ks (is_op_decl n w p m e c ws k kp km ke kc kr name x1 x2 x3
     let r1 = good_right kp (km ++ (ke ++ (kc ++ kr))) all in
     let r2 = good_right km (ke ++ (kc ++ kr)) r1 in
     let r3 = good_right ke (kc ++ kr) r2 in
-    let placement = where_within p kp x1 (good_left kp (km ++ (ke ++ (kc ++ kr))) all) in
+    let placement = placement_within p kp x1 (good_left kp (km ++ (ke ++ (kc ++ kr))) all) in
     let run = run_within ws kr x5 (good_right kc kr r3) in
     record {
       name = name_good n k name (good_first k _ named);
@@ -194,8 +190,8 @@ declares_within v d ks (is_op_decl n w p m e c ws k kp km ke kc kr name x1 x2 x3
       client = placement.client;
       full = placement.full;
       cached = placement.cached;
-      hint = manner_within m km x2 (good_left km (ke ++ (kc ++ kr)) r1);
-      expiry = keeping_within v w e ke x3;
+      hint = settings_within m km x2 (good_left km (ke ++ (kc ++ kr)) r1);
+      expiry = retention_within v w e ke x3;
       some_words = run.0;
       few_words = run.1;
       words = run.2;
@@ -286,16 +282,16 @@ Same eq None o b = Unit {0}
 Same eq (Some x) None b = Unit {0}
 Same eq (Some x) (Some y) b = eq x y ≡ b
 
-abbrev Told : {X : Type 0} → (X → X → Bool) → (Declaration → Option X) → Type 0
-Told eq pick = (d e : Declaration) → Same eq (pick d) (pick e) (same_name d e)
+abbrev Decides : {X : Type 0} → (X → X → Bool) → (Declaration → Option X) → Type 0
+Decides eq pick = (d e : Declaration) → Same eq (pick d) (pick e) (same_name d e)
 
 none_cons : {X : Type 0} (eq : X → X → Bool) (x : X) (o : Option X) (xs : List X) (b : Bool) → Same eq (Some x) o b → b ≡ false → list_any (eq x) xs ≡ false → list_any (eq x) (cons_option o xs) ≡ false
 none_cons eq x None xs b s e h = h
 none_cons eq x (Some y) xs b s e h = rw (s, e, h) refl
 
-none_same : {X : Type 0} (eq : X → X → Bool) (pick : Declaration → Option X) → Told eq pick → (d : Declaration) (x : X) → pick d ≡ Some x → (ds : List Declaration) → AllByRecursion (λ e. same_name d e ≡ false) ds → list_any (eq x) (filter_map pick ds) ≡ false
-none_same eq pick told d x is [] h = refl
-none_same eq pick told d x is (e ∷ ds) (apart, h) = none_cons eq x (pick e) (filter_map pick ds) (same_name d e) (subst (λ o. Same eq o (pick e) (same_name d e)) is (told d e)) apart (none_same eq pick told d x is ds h)
+none_same : {X : Type 0} (eq : X → X → Bool) (pick : Declaration → Option X) → Decides eq pick → (d : Declaration) (x : X) → pick d ≡ Some x → (ds : List Declaration) → AllByRecursion (λ e. same_name d e ≡ false) ds → list_any (eq x) (filter_map pick ds) ≡ false
+none_same eq pick reported d x is [] h = refl
+none_same eq pick reported d x is (e ∷ ds) (apart, h) = none_cons eq x (pick e) (filter_map pick ds) (same_name d e) (subst (λ o. Same eq o (pick e) (same_name d e)) is (reported d e)) apart (none_same eq pick reported d x is ds h)
 
 any_name : {X : Type 0} (name : X → List ℕ) (n : List ℕ) (xs : List X) → list_any (bytes_eq n) (map name xs) ≡ list_any (λ y. bytes_eq n (name y)) xs
 any_name name n [] = refl
@@ -308,97 +304,97 @@ names_cons : {X : Type 0} (name : X → List ℕ) (o : Option X) (xs : List X) �
 names_cons name None xs new h = h
 names_cons name (Some x) xs new h = rw (any_name name (name x) xs, new x refl, h) refl
 
-names_apart : {X : Type 0} (name : X → List ℕ) (pick : Declaration → Option X) → Told (λ x y. bytes_eq (name x) (name y)) pick → (ds : List Declaration) → IsDistinct same_name ds → NamesApart name (filter_map pick ds)
+names_apart : {X : Type 0} (name : X → List ℕ) (pick : Declaration → Option X) → Decides (λ x y. bytes_eq (name x) (name y)) pick → (ds : List Declaration) → IsDistinct same_name ds → NamesApart name (filter_map pick ds)
 unfolding IsDistinct
-names_apart name pick told [] h = refl
-names_apart name pick told (d ∷ ds) (apart, h) = names_cons name (pick d) (filter_map pick ds) (λ x is. none_same (λ y z. bytes_eq (name y) (name z)) pick told d x is ds apart) (names_apart name pick told ds h)
+names_apart name pick reported [] h = refl
+names_apart name pick reported (d ∷ ds) (apart, h) = names_cons name (pick d) (filter_map pick ds) (λ x is. none_same (λ y z. bytes_eq (name y) (name z)) pick reported d x is ds apart) (names_apart name pick reported ds h)
 
 clients_cons : (o : Option ClientDecl) (xs : List ClientDecl) → ((x : ClientDecl) → o ≡ Some x → list_any (same_client x) xs ≡ false) → are_clients_apart xs ≡ true → are_clients_apart (cons_option o xs) ≡ true
 clients_cons None xs new h = h
 clients_cons (Some x) xs new h = rw (new x refl, h) refl
 
-clients_apart : Told same_client client_in → (ds : List Declaration) → IsDistinct same_name ds → are_clients_apart (filter_map client_in ds) ≡ true
+clients_apart : Decides same_client client_in → (ds : List Declaration) → IsDistinct same_name ds → are_clients_apart (filter_map client_in ds) ≡ true
 unfolding IsDistinct
-clients_apart told [] h = refl
-clients_apart told (d ∷ ds) (apart, h) = clients_cons (client_in d) (filter_map client_in ds) (λ x is. none_same same_client client_in told d x is ds apart) (clients_apart told ds h)
+clients_apart reported [] h = refl
+clients_apart reported (d ∷ ds) (apart, h) = clients_cons (client_in d) (filter_map client_in ds) (λ x is. none_same same_client client_in reported d x is ds apart) (clients_apart reported ds h)
 
-input_told : Told (λ x y. bytes_eq x.name y.name) input_in
-input_told (Input d) (Input e) = refl
-input_told (Input d) (Pool e) = tt
-input_told (Input d) (Client e) = tt
-input_told (Input d) (Worker e) = tt
-input_told (Input d) (Op e) = tt
-input_told (Input d) (Node e m) = tt
-input_told (Pool d) e = tt
-input_told (Client d) e = tt
-input_told (Worker d) e = tt
-input_told (Op d) e = tt
-input_told (Node d n) e = tt
+input_decides : Decides (λ x y. bytes_eq x.name y.name) input_in
+input_decides (Input d) (Input e) = refl
+input_decides (Input d) (Pool e) = tt
+input_decides (Input d) (Client e) = tt
+input_decides (Input d) (Worker e) = tt
+input_decides (Input d) (Op e) = tt
+input_decides (Input d) (Node e m) = tt
+input_decides (Pool d) e = tt
+input_decides (Client d) e = tt
+input_decides (Worker d) e = tt
+input_decides (Op d) e = tt
+input_decides (Node d n) e = tt
 
-pool_told : Told (λ x y. bytes_eq x.name y.name) pool_in
-pool_told (Input d) e = tt
-pool_told (Pool d) (Input e) = tt
-pool_told (Pool d) (Pool e) = refl
-pool_told (Pool d) (Client e) = tt
-pool_told (Pool d) (Worker e) = tt
-pool_told (Pool d) (Op e) = tt
-pool_told (Pool d) (Node e m) = tt
-pool_told (Client d) e = tt
-pool_told (Worker d) e = tt
-pool_told (Op d) e = tt
-pool_told (Node d n) e = tt
+pool_decides : Decides (λ x y. bytes_eq x.name y.name) pool_in
+pool_decides (Input d) e = tt
+pool_decides (Pool d) (Input e) = tt
+pool_decides (Pool d) (Pool e) = refl
+pool_decides (Pool d) (Client e) = tt
+pool_decides (Pool d) (Worker e) = tt
+pool_decides (Pool d) (Op e) = tt
+pool_decides (Pool d) (Node e m) = tt
+pool_decides (Client d) e = tt
+pool_decides (Worker d) e = tt
+pool_decides (Op d) e = tt
+pool_decides (Node d n) e = tt
 
-client_told : Told same_client client_in
-client_told (Input d) e = tt
-client_told (Pool d) e = tt
-client_told (Client d) (Input e) = tt
-client_told (Client d) (Pool e) = tt
-client_told (Client d) (Client e) = refl
-client_told (Client d) (Worker e) = tt
-client_told (Client d) (Op e) = tt
-client_told (Client d) (Node e m) = tt
-client_told (Worker d) e = tt
-client_told (Op d) e = tt
-client_told (Node d n) e = tt
+client_decides : Decides same_client client_in
+client_decides (Input d) e = tt
+client_decides (Pool d) e = tt
+client_decides (Client d) (Input e) = tt
+client_decides (Client d) (Pool e) = tt
+client_decides (Client d) (Client e) = refl
+client_decides (Client d) (Worker e) = tt
+client_decides (Client d) (Op e) = tt
+client_decides (Client d) (Node e m) = tt
+client_decides (Worker d) e = tt
+client_decides (Op d) e = tt
+client_decides (Node d n) e = tt
 
-worker_told : Told (λ x y. bytes_eq x.name y.name) worker_in
-worker_told (Input d) e = tt
-worker_told (Pool d) e = tt
-worker_told (Client d) e = tt
-worker_told (Worker d) (Input e) = tt
-worker_told (Worker d) (Pool e) = tt
-worker_told (Worker d) (Client e) = tt
-worker_told (Worker d) (Worker e) = refl
-worker_told (Worker d) (Op e) = tt
-worker_told (Worker d) (Node e m) = tt
-worker_told (Op d) e = tt
-worker_told (Node d n) e = tt
+worker_decides : Decides (λ x y. bytes_eq x.name y.name) worker_in
+worker_decides (Input d) e = tt
+worker_decides (Pool d) e = tt
+worker_decides (Client d) e = tt
+worker_decides (Worker d) (Input e) = tt
+worker_decides (Worker d) (Pool e) = tt
+worker_decides (Worker d) (Client e) = tt
+worker_decides (Worker d) (Worker e) = refl
+worker_decides (Worker d) (Op e) = tt
+worker_decides (Worker d) (Node e m) = tt
+worker_decides (Op d) e = tt
+worker_decides (Node d n) e = tt
 
-op_told : Told (λ x y. bytes_eq x.name y.name) op_in
-op_told (Input d) e = tt
-op_told (Pool d) e = tt
-op_told (Client d) e = tt
-op_told (Worker d) e = tt
-op_told (Op d) (Input e) = tt
-op_told (Op d) (Pool e) = tt
-op_told (Op d) (Client e) = tt
-op_told (Op d) (Worker e) = tt
-op_told (Op d) (Op e) = refl
-op_told (Op d) (Node e m) = tt
-op_told (Node d n) e = tt
+op_decides : Decides (λ x y. bytes_eq x.name y.name) op_in
+op_decides (Input d) e = tt
+op_decides (Pool d) e = tt
+op_decides (Client d) e = tt
+op_decides (Worker d) e = tt
+op_decides (Op d) (Input e) = tt
+op_decides (Op d) (Pool e) = tt
+op_decides (Op d) (Client e) = tt
+op_decides (Op d) (Worker e) = tt
+op_decides (Op d) (Op e) = refl
+op_decides (Op d) (Node e m) = tt
+op_decides (Node d n) e = tt
 
-node_told : Told (λ x y. bytes_eq x.name y.name) node_in
-node_told (Input d) e = tt
-node_told (Pool d) e = tt
-node_told (Client d) e = tt
-node_told (Worker d) e = tt
-node_told (Op d) e = tt
-node_told (Node d n) (Input e) = tt
-node_told (Node d n) (Pool e) = tt
-node_told (Node d n) (Client e) = tt
-node_told (Node d n) (Worker e) = tt
-node_told (Node d n) (Op e) = tt
-node_told (Node d n) (Node e m) = refl
+node_decides : Decides (λ x y. bytes_eq x.name y.name) node_in
+node_decides (Input d) e = tt
+node_decides (Pool d) e = tt
+node_decides (Client d) e = tt
+node_decides (Worker d) e = tt
+node_decides (Op d) e = tt
+node_decides (Node d n) (Input e) = tt
+node_decides (Node d n) (Pool e) = tt
+node_decides (Node d n) (Client e) = tt
+node_decides (Node d n) (Worker e) = tt
+node_decides (Node d n) (Op e) = tt
+node_decides (Node d n) (Node e m) = refl
 
 -- ---- the program
 
@@ -414,12 +410,12 @@ made_within v ds within few few_terms apart = record {
   few_ops = few_in v ds _ decl.Op (few decl.Op);
   few_nodes = few_in v ds _ decl.Node (few decl.Node);
   few_terms = let same = terms_within ds within in omega (arith, same, few_terms);
-  inputs_apart = names_apart (λ d. d.name) input_in input_told ds apart;
-  pools_apart = names_apart (λ d. d.name) pool_in pool_told ds apart;
-  clients_apart = clients_apart client_told ds apart;
-  workers_apart = names_apart (λ d. d.name) worker_in worker_told ds apart;
-  ops_apart = names_apart (λ d. d.name) op_in op_told ds apart;
-  nodes_apart = names_apart (λ d. d.name) node_in node_told ds apart;
+  inputs_apart = names_apart (λ d. d.name) input_in input_decides ds apart;
+  pools_apart = names_apart (λ d. d.name) pool_in pool_decides ds apart;
+  clients_apart = clients_apart client_decides ds apart;
+  workers_apart = names_apart (λ d. d.name) worker_in worker_decides ds apart;
+  ops_apart = names_apart (λ d. d.name) op_in op_decides ds apart;
+  nodes_apart = names_apart (λ d. d.name) node_in node_decides ds apart;
   inputs = inputs_within ds within;
   pools = pools_within ds within;
   clients = clients_within ds within;
@@ -429,7 +425,7 @@ made_within v ds within few few_terms apart = record {
 }
 
 -- A program that some bytes stand for is within the limits.
-pub standing_within : (bytes : List ℕ) (p : Program) → StandsFor bytes p → IsWithinLimits p
+pub standing_within : (bytes : List ℕ) (p : Program) → IsFileOf bytes p → IsWithinLimits p
 standing_within bytes p stands =
     let s = stands.spelling in
     let good = subst Good s.spelled.2 (good_tokens bytes stands.few_bytes) in

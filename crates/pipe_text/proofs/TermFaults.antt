@@ -17,10 +17,10 @@ use Rattle.value_core.specs.declared.lexing.Stop.{Stop}
 use Rattle.value_core.specs.declared.lexing.TokenAt.{TokenAt}
 use Rattle.pipe_text.specs.Words.{body_letters, body_word, fun_letters, fun_word, kind_letters, kind_word}
 use Rattle.value_core.specs.Literals.{tokens_in, is_mark_of}
-use Rattle.pipe_text.specs.Readers.{◌>>=◌, Reader, give, seq, peek, mark_at, word_at}
+use Rattle.pipe_text.specs.inside.Readers.{◌>>=◌, Reader, give, seq, peek, mark_at, word_at}
 use Rattle.pipe_text.specs.Grammar.{Limits, NameIs, IsLiteral, is_unit, form, one, many, Spells, is_return, is_fail, is_input, is_node, is_var, is_map, is_pair, is_bind, is_list_map, is_list_iter, is_catch, is_state, is_gate, is_all, is_build, is_output, no_more, one_more}
-use Rattle.pipe_text.specs.TermReading.{name_at, text_at, literal_at, Counted, open_at, two_at, part_at, with_part, parts_at, body_at, term_at}
-use Rattle.pipe_text.specs.FileReading.{Bounds}
+use Rattle.pipe_text.specs.inside.TermReading.{name_at, text_at, literal_at, Counted, open_at, two_at, part_at, with_part, parts_at, body_at, term_at}
+use Rattle.pipe_text.specs.inside.FileReading.{Bounds}
 use Rattle.pipe_text.proofs.Finding.{Nothing, Then, Dressed, Either, Single, IsMark}
 use Rattle.pipe_text.proofs.WordLaws.{body_letters_are, kind_letters_are, fun_letters_are}
 use Rattle.pipe_text.proofs.TermFinds.{OneName, OneText, Lettered, finds_term, finds_open, finds_part, either}
@@ -161,7 +161,7 @@ local_parts : (l : Bounds) (d n m j k : ℕ) → n - k ≤ m → j ≤ k → Loc
 local_parts l d n zero j k left h x = parts_from l d n j k h x (λ a some few. absurd (omega (arith, some, few, left)))
 local_parts l d n (suc m) j k left h x = parts_from l d n j k h x (λ a some few. local_parts l d n m (j + 1) (k + a.1) (omega (arith, some, few, left)) (omega (arith, some, h)) x)
 
--- ---- behind the word
+-- ---- after the word
 
 abbrev BodyG : Bounds → ℕ → BodyWord → Counted → List Token → Type 0
 BodyG l d w x ks = Spells (roomy l.lim) (suc (suc d)) x.1 (one x.0) (form w ks)

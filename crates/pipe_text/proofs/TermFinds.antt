@@ -15,11 +15,12 @@ use Rattle.pipe_text.specs.declared.fault.LimitName.{LimitName}
 use Rattle.pipe_text.specs.declared.fault.LimitName.TheVariants as limit
 use Rattle.pipe_text.specs.Words.{body_letters, body_word, fun_letters, fun_word, kind_letters, kind_word}
 use Rattle.value_core.specs.Literals.{is_mark_of}
-use Rattle.pipe_text.specs.Readers.{Reader, give, seq, mark_at, chosen, word_at, keyword_at, only, is_string}
+use Rattle.pipe_text.specs.inside.Readers.{Reader, give, seq, mark_at, chosen, word_at, keyword_at, only, is_string}
 use Rattle.pipe_text.specs.Grammar.{Limits, NameIs, TextIs, NumberIs, is_within, Texts, Items, list_of, IsLiteral, is_text, is_number, is_unit, is_list, form, one, many, Spells, is_return, is_fail, is_input, is_node, is_var, is_map, is_pair, is_bind, is_list_map, is_list_iter, is_catch, is_state, is_gate, is_all, is_build, is_output, no_more, one_more}
-use Rattle.pipe_text.specs.TermReading.{name_choice, name_at, text_choice, text_at, number_choice, number_at, room_choice, room_at, item_choice, item_at, command_word_at, with_text_read, texts_at, items_at, literal_choice, literal_at, Counted, open_choice, open_at, two_at, part_at, with_part, parts_at, body_at, term_at}
-use Rattle.pipe_text.proofs.Finding.{Finds, finds_same, Nothing, finds_give, Then, finds_seq, Dressed, finds_as, FindsFor, for_if, finds_by, finds_one, Either, finds_peek, is_equal, Single, IsMark, finds_mark, IsWord, finds_word}
+use Rattle.pipe_text.specs.inside.TermReading.{name_choice, name_at, text_choice, text_at, number_choice, number_at, room_choice, room_at, item_choice, item_at, command_word_at, with_text_read, texts_at, items_at, literal_choice, literal_at, Counted, open_choice, open_at, two_at, part_at, with_part, parts_at, body_at, term_at}
+use Rattle.pipe_text.proofs.Finding.{Finds, finds_same, Nothing, finds_give, Then, finds_seq, Dressed, finds_as, FindsFor, for_if, finds_by, finds_one, Either, finds_peek, Single, IsMark, finds_mark, IsWord, finds_word}
 use Rattle.pipe_text.proofs.WordLaws.{body_letters_are, fun_letters_are, kind_letters_are, only_letters}
+use Rattle.value_core.proofs.Basics.{nat_is}
 
 -- a word in its letters
 abbrev pub Lettered : {W : Type 0} → (W → List ℕ) → W → List Token → Type 0
@@ -100,8 +101,8 @@ finds_room lim what n = finds_by (room_choice lim what n) (RoomText lim n) (room
 
 -- the end of the texts, or one more for which there is room
 abbrev pub TextLang : List Token → List Token → Limits → ℕ → Option (List ℕ) → List Token → Type 0
-TextLang before behind lim n None ks = ks ≡ behind
-TextLang before behind lim n (Some t) ks = (k : Token) × (ks ≡ before ++ k ∷ []) × TextIs lim t k × (0 < n)
+TextLang before following lim n None ks = ks ≡ following
+TextLang before following lim n (Some t) ks = (k : Token) × (ks ≡ before ++ k ∷ []) × TextIs lim t k × (0 < n)
 
 abbrev pub ItemLang : Limits → ℕ → Option (List ℕ) → List Token → Type 0
 ItemLang = TextLang (Mark 44 ∷ []) (Mark 93 ∷ [])
@@ -113,8 +114,8 @@ text_item : (lim : Limits) (n m : ℕ) → m ≡ 44 → Finds (seq (room_at lim 
 text_item lim n m is = finds_same _ (Dressed (λ t. Some t) (RoomText lim n)) (λ o more. ItemLang lim n o (Mark m ∷ more)) (finds_as (room_at lim limit.List n) (λ t. Some t) (RoomText lim n) (finds_room lim limit.List n)) (item_of lim n m is)
 
 item_for : (lim : Limits) (n : ℕ) (k : Token) → FindsFor (item_choice lim n k) (λ o more. ItemLang lim n o (k ∷ more))
-item_for lim n (Mark m) = for_if (m == 93) _ _ _ (λ e. finds_one (λ o more. ItemLang lim n o (Mark m ∷ more)) None (rw (is_equal m 93 e) refl))
-    (λ d. for_if (m == 44) _ _ _ (λ e. text_item lim n m (is_equal m 44 e)) (λ e. tt))
+item_for lim n (Mark m) = for_if (m == 93) _ _ _ (λ e. finds_one (λ o more. ItemLang lim n o (Mark m ∷ more)) None (rw (nat_is m 93 e) refl))
+    (λ d. for_if (m == 44) _ _ _ (λ e. text_item lim n m (nat_is m 44 e)) (λ e. tt))
 item_for lim n (Words m) = tt
 item_for lim n LongText = tt
 item_for lim n (Number m) = tt
@@ -145,19 +146,19 @@ finds_command_word lim n = finds_same _ (Either (Dressed (λ t. Some t) (RoomTex
     (either _ _ (WordLang lim n) (word_of lim n) (no_word lim n))
 
 abbrev pub TextsLang : List Token → List Token → Limits → ℕ → List (List ℕ) → List Token → Type 0
-TextsLang before behind lim n ts ks = (length ts ≤ n) × Texts before behind lim ts ks
+TextsLang before following lim n ts ks = (length ts ≤ n) × Texts before following lim ts ks
 
 abbrev AfterText : List Token → List Token → Limits → ℕ → Option (List ℕ) → List (List ℕ) → List Token → Type 0
-AfterText before behind lim n None ts ks = (ts ≡ []) × (ks ≡ [])
-AfterText before behind lim n (Some t) ts ks = Dressed (λ xs. t ∷ xs) (TextsLang before behind lim n) ts ks
+AfterText before following lim n None ts ks = (ts ≡ []) × (ks ≡ [])
+AfterText before following lim n (Some t) ts ks = Dressed (λ xs. t ∷ xs) (TextsLang before following lim n) ts ks
 
-after_text : (before behind : List Token) (lim : Limits) (n : ℕ) (r : Reader (List (List ℕ))) → Finds r (TextsLang before behind lim n) → (o : Option (List ℕ)) → Finds (with_text_read o r) (AfterText before behind lim n o)
-after_text before behind lim n r x None = finds_give []
-after_text before behind lim n r x (Some t) = finds_as r (λ xs. t ∷ xs) (TextsLang before behind lim n) x
+after_text : (before following : List Token) (lim : Limits) (n : ℕ) (r : Reader (List (List ℕ))) → Finds r (TextsLang before following lim n) → (o : Option (List ℕ)) → Finds (with_text_read o r) (AfterText before following lim n o)
+after_text before following lim n r x None = finds_give []
+after_text before following lim n r x (Some t) = finds_as r (λ xs. t ∷ xs) (TextsLang before following lim n) x
 
-texts_of : (before behind : List Token) (lim : Limits) (n : ℕ) (ts : List (List ℕ)) (ks : List Token) → Then (TextLang before behind lim (suc n)) (AfterText before behind lim n) ts ks → TextsLang before behind lim (suc n) ts ks
-texts_of before behind lim n ts ks (None, k1, k2, parts, item, (is, none)) = rw (is, parts, item, none) (omega arith, append-nil behind)
-texts_of before behind lim n ts ks (Some t, k1, k2, parts, (k, item, l, some), (xs, is, (few, rest))) = rw (is, parts, item) (omega (arith, few), (k, k2, append_assoc before (k ∷ []) k2, l, rest))
+texts_of : (before following : List Token) (lim : Limits) (n : ℕ) (ts : List (List ℕ)) (ks : List Token) → Then (TextLang before following lim (suc n)) (AfterText before following lim n) ts ks → TextsLang before following lim (suc n) ts ks
+texts_of before following lim n ts ks (None, k1, k2, parts, item, (is, none)) = rw (is, parts, item, none) (omega arith, append-nil following)
+texts_of before following lim n ts ks (Some t, k1, k2, parts, (k, item, l, some), (xs, is, (few, rest))) = rw (is, parts, item) (omega (arith, few), (k, k2, append_assoc before (k ∷ []) k2, l, rest))
 
 abbrev AfterLast : Option (List ℕ) → List (List ℕ) → List Token → Type 0
 AfterLast None ts ks = (ts ≡ []) × (ks ≡ [])
@@ -167,15 +168,15 @@ after_last : (o : Option (List ℕ)) → Finds (with_text_read o (give [])) (Aft
 after_last None = finds_give []
 after_last (Some t) = finds_as (give []) (λ xs. t ∷ xs) (Nothing []) (finds_give [])
 
-last_of : (before behind : List Token) (lim : Limits) (ts : List (List ℕ)) (ks : List Token) → Then (TextLang before behind lim 0) AfterLast ts ks → TextsLang before behind lim 0 ts ks
-last_of before behind lim ts ks (None, k1, k2, parts, item, (is, none)) = rw (is, parts, item, none) (omega arith, append-nil behind)
-last_of before behind lim ts ks (Some t, k1, k2, parts, (k, item, l, some), rest) = absurd (omega arith)
+last_of : (before following : List Token) (lim : Limits) (ts : List (List ℕ)) (ks : List Token) → Then (TextLang before following lim 0) AfterLast ts ks → TextsLang before following lim 0 ts ks
+last_of before following lim ts ks (None, k1, k2, parts, item, (is, none)) = rw (is, parts, item, none) (omega arith, append-nil following)
+last_of before following lim ts ks (Some t, k1, k2, parts, (k, item, l, some), rest) = absurd (omega arith)
 
-pub finds_texts : (before behind : List Token) (lim : Limits) (r : ℕ → Reader (Option (List ℕ))) → ((n : ℕ) → Finds (r n) (TextLang before behind lim n)) → (n : ℕ) → Finds (texts_at r n) (TextsLang before behind lim n)
+pub finds_texts : (before following : List Token) (lim : Limits) (r : ℕ → Reader (Option (List ℕ))) → ((n : ℕ) → Finds (r n) (TextLang before following lim n)) → (n : ℕ) → Finds (texts_at r n) (TextsLang before following lim n)
 unfolding texts_at
-finds_texts before behind lim r x zero = finds_same _ (Then (TextLang before behind lim 0) AfterLast) (TextsLang before behind lim 0) (finds_seq (r 0) (λ o. with_text_read o (give [])) (TextLang before behind lim 0) AfterLast (x 0) after_last) (last_of before behind lim)
-finds_texts before behind lim r x (suc n) = finds_same _ (Then (TextLang before behind lim (suc n)) (AfterText before behind lim n)) (TextsLang before behind lim (suc n))
-    (finds_seq (r (suc n)) (λ o. with_text_read o (texts_at r n)) (TextLang before behind lim (suc n)) (AfterText before behind lim n) (x (suc n)) (after_text before behind lim n (texts_at r n) (finds_texts before behind lim r x n))) (texts_of before behind lim n)
+finds_texts before following lim r x zero = finds_same _ (Then (TextLang before following lim 0) AfterLast) (TextsLang before following lim 0) (finds_seq (r 0) (λ o. with_text_read o (give [])) (TextLang before following lim 0) AfterLast (x 0) after_last) (last_of before following lim)
+finds_texts before following lim r x (suc n) = finds_same _ (Then (TextLang before following lim (suc n)) (AfterText before following lim n)) (TextsLang before following lim (suc n))
+    (finds_seq (r (suc n)) (λ o. with_text_read o (texts_at r n)) (TextLang before following lim (suc n)) (AfterText before following lim n) (x (suc n)) (after_text before following lim n (texts_at r n) (finds_texts before following lim r x n))) (texts_of before following lim n)
 
 no_text : (lim : Limits) (ts : List (List ℕ)) (ks : List Token) → Dressed (λ u. []) (Single (IsMark 93)) ts ks → Items lim ts ks
 no_text lim ts ks (u, is, (k, parts, mark)) = rw (is, parts, mark) refl
@@ -208,7 +209,7 @@ literal_for lim (Words m) = finds_one (λ v more. IsLiteral lim v (Words m ∷ m
 literal_for lim LongText = for_if (lim.lifted limit.Text) _ _ _ (λ e. finds_one (λ v more. IsLiteral lim v (LongText ∷ more)) (value.Words []) (is_text [] LongText (e, refl))) (λ e. tt)
 literal_for lim (Number m) = finds_one (λ v more. IsLiteral lim v (Number m ∷ more)) (value.Num m) (is_number m)
 literal_for lim (Name m) = unit_found lim m (only (codes "unit") m) refl
-literal_for lim (Mark m) = for_if (m == 91) _ _ _ (λ e. finds_same _ (Dressed list_of (Items lim)) (λ v more. IsLiteral lim v (Mark m ∷ more)) (finds_as (items_at lim) list_of (Items lim) (finds_items lim)) (list_of_items lim m (is_equal m 91 e))) (λ e. tt)
+literal_for lim (Mark m) = for_if (m == 91) _ _ _ (λ e. finds_same _ (Dressed list_of (Items lim)) (λ v more. IsLiteral lim v (Mark m ∷ more)) (finds_as (items_at lim) list_of (Items lim) (finds_items lim)) (list_of_items lim m (nat_is m 91 e))) (λ e. tt)
 literal_for lim LongName = tt
 
 finds_literal : (lim : Limits) → Finds (literal_at lim) (IsLiteral lim)
@@ -224,7 +225,7 @@ abbrev pub Opened : ℕ → ℕ → Unit {0} → List Token → Type 0
 Opened d n u ks = (ks ≡ Mark 40 ∷ []) × (0 < d) × (0 < n)
 
 open_for : (d n : ℕ) (k : Token) → FindsFor (open_choice d n k) (λ u more. Opened d n u (k ∷ more))
-open_for d n (Mark m) = for_if (m == 40) _ _ _ (λ e. for_if (n == 0) _ _ _ (λ z. tt) (λ z. for_if (d == 0) _ _ _ (λ y. tt) (λ y. finds_one (λ u more. Opened d n u (Mark m ∷ more)) tt ((λ i. Mark (is_equal m 40 e i) ∷ []), some_left d y, some_left n z)))) (λ e. tt)
+open_for d n (Mark m) = for_if (m == 40) _ _ _ (λ e. for_if (n == 0) _ _ _ (λ z. tt) (λ z. for_if (d == 0) _ _ _ (λ y. tt) (λ y. finds_one (λ u more. Opened d n u (Mark m ∷ more)) tt ((λ i. Mark (nat_is m 40 e i) ∷ []), some_left d y, some_left n z)))) (λ e. tt)
 open_for d n (Words m) = tt
 open_for d n LongText = tt
 open_for d n (Number m) = tt
@@ -235,16 +236,16 @@ pub finds_open : (d n : ℕ) → Finds (open_at d n) (Opened d n)
 finds_open d n = finds_by (open_choice d n) (Opened d n) (open_for d n)
 
 -- two terms
-abbrev Two : Limits → ℕ → ℕ → (Term × Term) × ℕ → List Token → Type 0
-Two lim d n p ks = (i j : ℕ) × (ka kb : List Token) × (ks ≡ ka ++ kb) × (p.1 ≡ i + j) × (i + j ≤ n) × Spells lim d i (one p.0.0) ka × Spells lim d j (one p.0.1) kb
+abbrev TermPair : Limits → ℕ → ℕ → (Term × Term) × ℕ → List Token → Type 0
+TermPair lim d n p ks = (i j : ℕ) × (ka kb : List Token) × (ks ≡ ka ++ kb) × (p.1 ≡ i + j) × (i + j ≤ n) × Spells lim d i (one p.0.0) ka × Spells lim d j (one p.0.1) kb
 
-two_of : (lim : Limits) (d n : ℕ) (p : (Term × Term) × ℕ) (ks : List Token) → Then (TermLang lim d n) (λ a. Dressed (λ b. ((a.0, b.0), a.1 + b.1)) (TermLang lim d (n - a.1))) p ks → Two lim d n p ks
+two_of : (lim : Limits) (d n : ℕ) (p : (Term × Term) × ℕ) (ks : List Token) → Then (TermLang lim d n) (λ a. Dressed (λ b. ((a.0, b.0), a.1 + b.1)) (TermLang lim d (n - a.1))) p ks → TermPair lim d n p ks
 two_of lim d n p ks (a, k1, k2, parts, (fits, x), (b, is, (more, y))) = rw is (a.1, b.1, k1, k2, parts, refl, omega (arith, fits, more), x, y)
 
-finds_two : (lim : Limits) (d n : ℕ) (r : ℕ → Reader Counted) → ((left : ℕ) → Finds (r left) (TermLang lim d left)) → Finds (two_at r n) (Two lim d n)
+finds_two : (lim : Limits) (d n : ℕ) (r : ℕ → Reader Counted) → ((left : ℕ) → Finds (r left) (TermLang lim d left)) → Finds (two_at r n) (TermPair lim d n)
 unfolding two_at
 finds_two lim d n r x =
-    finds_same _ (Then (TermLang lim d n) (λ a. Dressed (λ b. ((a.0, b.0), a.1 + b.1)) (TermLang lim d (n - a.1)))) (Two lim d n)
+    finds_same _ (Then (TermLang lim d n) (λ a. Dressed (λ b. ((a.0, b.0), a.1 + b.1)) (TermLang lim d (n - a.1)))) (TermPair lim d n)
     (finds_seq (r n) (λ a. seq (r (n - a.1)) (λ b. give ((a.0, b.0), a.1 + b.1))) (TermLang lim d n) (λ a. Dressed (λ b. ((a.0, b.0), a.1 + b.1)) (TermLang lim d (n - a.1))) (x n)
     (λ a. finds_as (r (n - a.1)) (λ b. ((a.0, b.0), a.1 + b.1)) (TermLang lim d (n - a.1)) (x (n - a.1))))
     (two_of lim d n)
@@ -325,10 +326,10 @@ NamedRule lim d w g = (m k : ℕ) (x : List ℕ) (t : Token) (a b : Term) (ka kb
 one_form : (lim : Limits) (d n : ℕ) (w : BodyWord) (g : Term → Term) → OneRule lim d w g → (x : Counted) (ks : List Token) → Dressed (λ a. (g a.0, 1 + a.1)) (TermLang lim d n) x ks → BodyLang lim d n w x ks
 one_form lim d n w g rule x ks (a, is, (fits, l)) = rw is (omega (arith, fits), rule a.1 a.0 ks l)
 
-two_form : (lim : Limits) (d n : ℕ) (w : BodyWord) (g : Term → Term → Term) → TwoRule lim d w g → (x : Counted) (ks : List Token) → Dressed (λ p. (g p.0.0 p.0.1, 1 + p.1)) (Two lim d n) x ks → BodyLang lim d n w x ks
+two_form : (lim : Limits) (d n : ℕ) (w : BodyWord) (g : Term → Term → Term) → TwoRule lim d w g → (x : Counted) (ks : List Token) → Dressed (λ p. (g p.0.0 p.0.1, 1 + p.1)) (TermPair lim d n) x ks → BodyLang lim d n w x ks
 two_form lim d n w g rule x ks (p, is, (i, j, ka, kb, parts, sum, fits, l, r)) = rw (is, parts, sum) (omega (arith, fits), rule i j p.0.0 p.0.1 ka kb l r)
 
-named_form : (lim : Limits) (d n : ℕ) (w : BodyWord) (g : List ℕ → Term → Term → Term) → NamedRule lim d w g → (x : Counted) (ks : List Token) → Then (OneName lim) (λ y. Dressed (λ p. (g y p.0.0 p.0.1, 1 + p.1)) (Two lim d n)) x ks → BodyLang lim d n w x ks
+named_form : (lim : Limits) (d n : ℕ) (w : BodyWord) (g : List ℕ → Term → Term → Term) → NamedRule lim d w g → (x : Counted) (ks : List Token) → Then (OneName lim) (λ y. Dressed (λ p. (g y p.0.0 p.0.1, 1 + p.1)) (TermPair lim d n)) x ks → BodyLang lim d n w x ks
 named_form lim d n w g rule x ks (y, k1, k2, split, (t, t_is, name), (p, is, (i, j, ka, kb, parts, sum, fits, l, r))) = rw (is, split, t_is, parts, sum) (omega (arith, fits), rule i j y t p.0.0 p.0.1 ka kb name l r)
 
 builds : (lim : Limits) (d n : ℕ) (x : Counted) (ks : List Token) → Then (OneName lim) (λ y. Dressed (λ a. (term.Build y a.0, 1 + a.1)) (TermLang lim d n)) x ks → BodyLang lim d n word.Build x ks
@@ -341,11 +342,11 @@ finds_one_form : (lim : Limits) (d n : ℕ) (w : BodyWord) (g : Term → Term) (
 finds_one_form lim d n w g r x rule = finds_same _ (Dressed (λ a. (g a.0, 1 + a.1)) (TermLang lim d n)) (BodyLang lim d n w) (finds_as (r n) (λ a. (g a.0, 1 + a.1)) (TermLang lim d n) (x n)) (one_form lim d n w g rule)
 
 finds_two_form : (lim : Limits) (d n : ℕ) (w : BodyWord) (g : Term → Term → Term) (r : ℕ → Reader Counted) → ((left : ℕ) → Finds (r left) (TermLang lim d left)) → TwoRule lim d w g → Finds (seq (two_at r n) (λ p. give (g p.0.0 p.0.1, 1 + p.1))) (BodyLang lim d n w)
-finds_two_form lim d n w g r x rule = finds_same _ (Dressed (λ p. (g p.0.0 p.0.1, 1 + p.1)) (Two lim d n)) (BodyLang lim d n w) (finds_as (two_at r n) (λ p. (g p.0.0 p.0.1, 1 + p.1)) (Two lim d n) (finds_two lim d n r x)) (two_form lim d n w g rule)
+finds_two_form lim d n w g r x rule = finds_same _ (Dressed (λ p. (g p.0.0 p.0.1, 1 + p.1)) (TermPair lim d n)) (BodyLang lim d n w) (finds_as (two_at r n) (λ p. (g p.0.0 p.0.1, 1 + p.1)) (TermPair lim d n) (finds_two lim d n r x)) (two_form lim d n w g rule)
 
 finds_named_form : (lim : Limits) (d n : ℕ) (w : BodyWord) (g : List ℕ → Term → Term → Term) (r : ℕ → Reader Counted) → ((left : ℕ) → Finds (r left) (TermLang lim d left)) → NamedRule lim d w g → Finds (seq (name_at lim) (λ y. seq (two_at r n) (λ p. give (g y p.0.0 p.0.1, 1 + p.1)))) (BodyLang lim d n w)
-finds_named_form lim d n w g r x rule = finds_same _ (Then (OneName lim) (λ y. Dressed (λ p. (g y p.0.0 p.0.1, 1 + p.1)) (Two lim d n))) (BodyLang lim d n w)
-    (finds_seq (name_at lim) (λ y. seq (two_at r n) (λ p. give (g y p.0.0 p.0.1, 1 + p.1))) (OneName lim) (λ y. Dressed (λ p. (g y p.0.0 p.0.1, 1 + p.1)) (Two lim d n)) (finds_name lim) (λ y. finds_as (two_at r n) (λ p. (g y p.0.0 p.0.1, 1 + p.1)) (Two lim d n) (finds_two lim d n r x)))
+finds_named_form lim d n w g r x rule = finds_same _ (Then (OneName lim) (λ y. Dressed (λ p. (g y p.0.0 p.0.1, 1 + p.1)) (TermPair lim d n))) (BodyLang lim d n w)
+    (finds_seq (name_at lim) (λ y. seq (two_at r n) (λ p. give (g y p.0.0 p.0.1, 1 + p.1))) (OneName lim) (λ y. Dressed (λ p. (g y p.0.0 p.0.1, 1 + p.1)) (TermPair lim d n)) (finds_name lim) (λ y. finds_as (two_at r n) (λ p. (g y p.0.0 p.0.1, 1 + p.1)) (TermPair lim d n) (finds_two lim d n r x)))
     (named_form lim d n w g rule)
 
 finds_named_leaf : (lim : Limits) (d n : ℕ) (w : BodyWord) (g : List ℕ → Counted) → ((x : Counted) (ks : List Token) → Dressed g (OneName lim) x ks → BodyLang lim d n w x ks) → Finds (seq (name_at lim) (λ y. give (g y))) (BodyLang lim d n w)

@@ -11,17 +11,18 @@ use Rattle.pipe_text.specs.declared.fault.LimitName.TheVariants as limit
 use Rattle.value_core.specs.declared.lexing.Stop.{Stop}
 use Rattle.value_core.specs.declared.lexing.TokenAt.{TokenAt}
 use Rattle.value_core.specs.Literals.{is_mark_of}
-use Rattle.pipe_text.specs.Readers.{◌>>=◌, Reader, give, seq, peek, mark_choice, mark_at, chosen, word_choice, word_at, keyword_at, only, is_string}
+use Rattle.pipe_text.specs.inside.Readers.{◌>>=◌, Reader, give, seq, peek, mark_choice, mark_at, chosen, word_choice, word_at, keyword_at, only, is_string}
 use Rattle.pipe_text.specs.Grammar.{Limits, TextIs, is_within, Texts, Items, list_of, IsLiteral, is_text, is_number, is_unit, is_list}
-use Rattle.pipe_text.specs.TermReading.{beyond, name_choice, name_at, text_choice, text_at, number_choice, number_at, room_choice, room_at, item_choice, item_at, command_word_at, with_text_read, texts_at, items_at, literal_choice, literal_at, open_choice, open_at}
+use Rattle.pipe_text.specs.inside.TermReading.{beyond, name_choice, name_at, text_choice, text_at, number_choice, number_at, room_choice, room_at, item_choice, item_at, command_word_at, with_text_read, texts_at, items_at, literal_choice, literal_at, open_choice, open_at}
 use Rattle.pipe_text.specs.declared.fault.LimitName.{LimitName}
-use Rattle.pipe_text.specs.FileReading.{Bounds}
-use Rattle.pipe_text.specs.Firsts.{SameLimit, Begins}
-use Rattle.pipe_text.proofs.Finding.{Finds, Nothing, Then, Dressed, Either, is_equal, Single, IsMark}
+use Rattle.pipe_text.specs.inside.FileReading.{Bounds}
+use Rattle.pipe_text.specs.FirstFault.{SameLimit, Begins}
+use Rattle.pipe_text.proofs.Finding.{Finds, Nothing, Then, Dressed, Either, Single, IsMark}
 use Rattle.pipe_text.proofs.WordLaws.{only_letters}
 use Rattle.pipe_text.proofs.TermFinds.{OneName, OneText, OneNumber, TextLang, finds_item, finds_command_word, Lettered, some_left, either}
 use Rattle.pipe_text.proofs.TermReads.{Under, within_wider}
 use Rattle.pipe_text.proofs.Locals.{Local, LocalFor, Possible, Implies, local_same, local_give, local_seq, local_branch, local_peek, local_eq, for_give, for_syntax, which}
+use Rattle.value_core.proofs.Basics.{nat_is}
 
 -- with room for one more, and nothing is too long or out of range
 abbrev pub roomy : Limits → Limits
@@ -108,7 +109,7 @@ local_number b what lifts = local_branch b (λ e. number_choice e.lim what) (One
 
 -- ---- a text with a count that is left, after j others
 
--- how many texts a list or a command may have behind the first, by the limit of this name
+-- how many texts a list or a command may have after the first, by the limit of this name
 pub record Counts (what : LimitName) (room : Limits → ℕ) : Type 0 where
   pub wider : (a b : Limits) → Under a b → room a ≤ room b
   pub same : (a b : Bounds) → SameLimit what a b → room a.lim ≡ room b.lim
@@ -158,8 +159,8 @@ local_room b what room c j = local_branch b (λ e. room_choice e.lim what (room 
 
 -- the end of the texts, or one more
 abbrev pub TextG : List Token → List Token → Limits → Option (List ℕ) → List Token → Type 0
-TextG before behind l None ks = ks ≡ behind
-TextG before behind l (Some t) ks = (k : Token) × (ks ≡ before ++ k ∷ []) × TextIs l t k
+TextG before following l None ks = ks ≡ following
+TextG before following l (Some t) ks = (k : Token) × (ks ≡ before ++ k ∷ []) × TextIs l t k
 
 abbrev ItemG : Limits → Option (List ℕ) → List Token → Type 0
 ItemG = TextG (Mark 44 ∷ []) (Mark 93 ∷ [])
@@ -172,12 +173,12 @@ begins_item l = (None, Mark 93, [], refl)
 
 item_mark : (b : Bounds) (j m : ℕ) → LocalFor b (λ e. item_choice e.lim (e.lim.more_items - j) (Mark m)) (ItemG (roomy b.lim)) (Mark m)
 item_mark b j m = elim (which (m == 93)) [
-  | inl is ↦ for_give b (λ e. item_choice e.lim (e.lim.more_items - j) (Mark m)) (ItemG (roomy b.lim)) (Mark m) None (λ e w. rw is refl) (λ i. Mark (is_equal m 93 is i) ∷ [])
+  | inl is ↦ for_give b (λ e. item_choice e.lim (e.lim.more_items - j) (Mark m)) (ItemG (roomy b.lim)) (Mark m) None (λ e w. rw is refl) (λ i. Mark (nat_is m 93 is i) ∷ [])
   | inr no_end ↦ elim (which (m == 44)) [
     | inl is ↦ inr (
       λ e. seq (room_at e.lim limit.List (e.lim.more_items - j)) (λ t. give (Some t)),
       λ e w. rw (no_end, is) refl,
-      local_same b _ (Dressed (λ t. Some t) (OneText (roomy b.lim))) (λ o more. ItemG (roomy b.lim) o (Mark m ∷ more)) (local_as b (λ e. room_at e.lim limit.List (e.lim.more_items - j)) (λ t. Some t) (OneText (roomy b.lim)) (local_room b limit.List (λ l. l.more_items) counts_items j)) (item_some (roomy b.lim) m (is_equal m 44 is)),
+      local_same b _ (Dressed (λ t. Some t) (OneText (roomy b.lim))) (λ o more. ItemG (roomy b.lim) o (Mark m ∷ more)) (local_as b (λ e. room_at e.lim limit.List (e.lim.more_items - j)) (λ t. Some t) (OneText (roomy b.lim)) (local_room b limit.List (λ l. l.more_items) counts_items j)) (item_some (roomy b.lim) m (nat_is m 44 is)),
     )
     | inr no_more_text ↦ for_syntax b (λ e. item_choice e.lim (e.lim.more_items - j) (Mark m)) (ItemG (roomy b.lim)) (Mark m) (begins_item (roomy b.lim)) (λ e. rw (no_end, no_more_text) refl)
   ]
@@ -193,7 +194,7 @@ item_for b j LongText = for_syntax b _ (ItemG (roomy b.lim)) LongText (begins_it
 
 -- what reads one text, with j before it
 abbrev LocalOne : Bounds → List Token → List Token → (Limits → ℕ) → (Limits → ℕ → Reader (Option (List ℕ))) → Type 0
-LocalOne b before behind room one_at = (j : ℕ) → Local b (λ e. one_at e.lim (room e.lim - j)) (TextG before behind (roomy b.lim))
+LocalOne b before following room one_at = (j : ℕ) → Local b (λ e. one_at e.lim (room e.lim - j)) (TextG before following (roomy b.lim))
 
 local_item : (b : Bounds) → LocalOne b (Mark 44 ∷ []) (Mark 93 ∷ []) (λ l. l.more_items) item_at
 unfolding item_at
@@ -216,8 +217,8 @@ local_command_word b j = local_same b (λ e. peek is_string (seq (room_at e.lim 
 abbrev Shuts : (ℕ → Reader (Option (List ℕ))) → Type 0
 Shuts r = (s : Stop) (ts : List TokenAt) (t : List ℕ) (rest : List TokenAt) → r 0 s ts ≡ Ok (Some t, rest) → ⊥
 
-shuts : (before behind : List Token) (lim : Limits) (r : ℕ → Reader (Option (List ℕ))) → ((n : ℕ) → Finds (r n) (TextLang before behind lim n)) → Shuts r
-shuts before behind lim r x s ts t rest e = let f = (x 0).found s ts (Some t) rest e in let none : 0 < 0 = f.2.3 in omega (arith, none)
+shuts : (before following : List Token) (lim : Limits) (r : ℕ → Reader (Option (List ℕ))) → ((n : ℕ) → Finds (r n) (TextLang before following lim n)) → Shuts r
+shuts before following lim r x s ts t rest e = let f = (x 0).found s ts (Some t) rest e in let none : 0 < 0 = f.2.3 in omega (arith, none)
 
 -- the reader of what is left, one step opened
 abbrev TextsStep : (ℕ → Reader (Option (List ℕ))) → ℕ → Reader (List (List ℕ))
@@ -235,22 +236,22 @@ texts_step r shut (suc n) s ts = let one_n : suc n - 1 ≡ n = omega arith in rw
 
 -- at most n more, and one that is too many
 abbrev pub TextsG : List Token → List Token → Limits → ℕ → List (List ℕ) → List Token → Type 0
-TextsG before behind l n ts ks = (length ts ≤ n + 1) × Texts before behind l ts ks
+TextsG before following l n ts ks = (length ts ≤ n + 1) × Texts before following l ts ks
 
 abbrev AfterG : List Token → List Token → Limits → ℕ → Option (List ℕ) → List (List ℕ) → List Token → Type 0
-AfterG before behind l n None ts ks = Nothing [] ts ks
-AfterG before behind l zero (Some t) ts ks = (ts ≡ t ∷ []) × (ks ≡ behind)
-AfterG before behind l (suc n) (Some t) ts ks = Dressed (λ xs. t ∷ xs) (TextsG before behind l n) ts ks
+AfterG before following l n None ts ks = Nothing [] ts ks
+AfterG before following l zero (Some t) ts ks = (ts ≡ t ∷ []) × (ks ≡ following)
+AfterG before following l (suc n) (Some t) ts ks = Dressed (λ xs. t ∷ xs) (TextsG before following l n) ts ks
 
-after_some : (before behind : List Token) (l : Limits) (n : ℕ) (o : Option (List ℕ)) → (ts : List (List ℕ)) × (ks : List Token) × AfterG before behind l n o ts ks
-after_some before behind l n None = ([], [], (refl, refl))
-after_some before behind l zero (Some t) = (t ∷ [], behind, (refl, refl))
-after_some before behind l (suc n) (Some t) = (t ∷ [], behind, ([], refl, (omega arith, refl)))
+after_some : (before following : List Token) (l : Limits) (n : ℕ) (o : Option (List ℕ)) → (ts : List (List ℕ)) × (ks : List Token) × AfterG before following l n o ts ks
+after_some before following l n None = ([], [], (refl, refl))
+after_some before following l zero (Some t) = (t ∷ [], following, (refl, refl))
+after_some before following l (suc n) (Some t) = (t ∷ [], following, ([], refl, (omega arith, refl)))
 
-texts_all : (before behind : List Token) (l : Limits) (n : ℕ) → Implies (Then (TextG before behind l) (AfterG before behind l n)) (TextsG before behind l n)
-texts_all before behind l n ts ks (None, k1, k2, parts, item, (is, none)) = rw (is, parts, item, none) (omega arith, append-nil behind)
-texts_all before behind l zero ts ks (Some t, k1, k2, parts, (k, item, h), (is, last)) = rw (is, parts, item, last) (omega arith, (k, behind, append_assoc before (k ∷ []) behind, h, refl))
-texts_all before behind l (suc n) ts ks (Some t, k1, k2, parts, (k, item, h), (xs, is, (few, rest))) = rw (is, parts, item) (omega (arith, few), (k, k2, append_assoc before (k ∷ []) k2, h, rest))
+texts_all : (before following : List Token) (l : Limits) (n : ℕ) → Implies (Then (TextG before following l) (AfterG before following l n)) (TextsG before following l n)
+texts_all before following l n ts ks (None, k1, k2, parts, item, (is, none)) = rw (is, parts, item, none) (omega arith, append-nil following)
+texts_all before following l zero ts ks (Some t, k1, k2, parts, (k, item, h), (is, last)) = rw (is, parts, item, last) (omega arith, (k, following, append_assoc before (k ∷ []) following, h, refl))
+texts_all before following l (suc n) ts ks (Some t, k1, k2, parts, (k, item, h), (xs, is, (few, rest))) = rw (is, parts, item) (omega (arith, few), (k, k2, append_assoc before (k ∷ []) k2, h, rest))
 
 later_left : (m j n : ℕ) → m - j ≡ suc n → m - suc j ≡ n
 later_left m j n e = omega (arith, e)
@@ -259,38 +260,38 @@ one_later : (m j : ℕ) → m - j - 1 ≡ m - suc j
 one_later m j = omega arith
 
 -- what the texts need of what reads one
-record OneAt (b : Bounds) (before behind : List Token) (room : Limits → ℕ) (one_at : Limits → ℕ → Reader (Option (List ℕ))) : Type 0 where
-  pub local : (j : ℕ) → Local b (λ e. one_at e.lim (room e.lim - j)) (TextG before behind (roomy b.lim))
+record OneAt (b : Bounds) (before following : List Token) (room : Limits → ℕ) (one_at : Limits → ℕ → Reader (Option (List ℕ))) : Type 0 where
+  pub local : (j : ℕ) → Local b (λ e. one_at e.lim (room e.lim - j)) (TextG before following (roomy b.lim))
   pub shut : (l : Limits) → Shuts (one_at l)
 
 abbrev AfterLocal : Bounds → List Token → List Token → (Limits → ℕ) → (Limits → ℕ → Reader (Option (List ℕ))) → ℕ → ℕ → Type 0
-AfterLocal b before behind room one_at n j = (o : Option (List ℕ)) → Possible (one_at b.lim (room b.lim - j)) o → Local b (λ e. with_text_read o (texts_at (one_at e.lim) (room e.lim - j - 1))) (AfterG before behind (roomy b.lim) n o)
+AfterLocal b before following room one_at n j = (o : Option (List ℕ)) → Possible (one_at b.lim (room b.lim - j)) o → Local b (λ e. with_text_read o (texts_at (one_at e.lim) (room e.lim - j - 1))) (AfterG before following (roomy b.lim) n o)
 
-texts_from : (b : Bounds) (before behind : List Token) (room : Limits → ℕ) (one_at : Limits → ℕ → Reader (Option (List ℕ))) → OneAt b before behind room one_at → (n j : ℕ) → AfterLocal b before behind room one_at n j → Local b (λ e. texts_at (one_at e.lim) (room e.lim - j)) (TextsG before behind (roomy b.lim) n)
-texts_from b before behind room one_at w n j x =
-    local_eq b (λ e. texts_at (one_at e.lim) (room e.lim - j)) (λ e. TextsStep (one_at e.lim) (room e.lim - j)) (TextsG before behind (roomy b.lim) n) (λ e s ts. texts_step (one_at e.lim) (w.shut e.lim) (room e.lim - j) s ts)
-    (local_same b (λ e. TextsStep (one_at e.lim) (room e.lim - j)) (Then (TextG before behind (roomy b.lim)) (AfterG before behind (roomy b.lim) n)) (TextsG before behind (roomy b.lim) n)
-    (local_seq b (λ e. one_at e.lim (room e.lim - j)) (λ e o. with_text_read o (texts_at (one_at e.lim) (room e.lim - j - 1))) (TextG before behind (roomy b.lim)) (AfterG before behind (roomy b.lim) n) (after_some before behind (roomy b.lim) n) (w.local j) x)
-    (texts_all before behind (roomy b.lim) n))
+texts_from : (b : Bounds) (before following : List Token) (room : Limits → ℕ) (one_at : Limits → ℕ → Reader (Option (List ℕ))) → OneAt b before following room one_at → (n j : ℕ) → AfterLocal b before following room one_at n j → Local b (λ e. texts_at (one_at e.lim) (room e.lim - j)) (TextsG before following (roomy b.lim) n)
+texts_from b before following room one_at w n j x =
+    local_eq b (λ e. texts_at (one_at e.lim) (room e.lim - j)) (λ e. TextsStep (one_at e.lim) (room e.lim - j)) (TextsG before following (roomy b.lim) n) (λ e s ts. texts_step (one_at e.lim) (w.shut e.lim) (room e.lim - j) s ts)
+    (local_same b (λ e. TextsStep (one_at e.lim) (room e.lim - j)) (Then (TextG before following (roomy b.lim)) (AfterG before following (roomy b.lim) n)) (TextsG before following (roomy b.lim) n)
+    (local_seq b (λ e. one_at e.lim (room e.lim - j)) (λ e o. with_text_read o (texts_at (one_at e.lim) (room e.lim - j - 1))) (TextG before following (roomy b.lim)) (AfterG before following (roomy b.lim) n) (after_some before following (roomy b.lim) n) (w.local j) x)
+    (texts_all before following (roomy b.lim) n))
 
-after_last : (b : Bounds) (before behind : List Token) (room : Limits → ℕ) (one_at : Limits → ℕ → Reader (Option (List ℕ))) → OneAt b before behind room one_at → (j : ℕ) → room b.lim - j ≡ 0 → AfterLocal b before behind room one_at 0 j
-after_last b before behind room one_at w j left None can = local_give b []
-after_last b before behind room one_at w j left (Some t) (s, ts, rest, can) = absurd (w.shut b.lim s ts t rest (rw left at can))
+after_last : (b : Bounds) (before following : List Token) (room : Limits → ℕ) (one_at : Limits → ℕ → Reader (Option (List ℕ))) → OneAt b before following room one_at → (j : ℕ) → room b.lim - j ≡ 0 → AfterLocal b before following room one_at 0 j
+after_last b before following room one_at w j left None can = local_give b []
+after_last b before following room one_at w j left (Some t) (s, ts, rest, can) = absurd (w.shut b.lim s ts t rest (rw left at can))
 
-after_one : (b : Bounds) (before behind : List Token) (room : Limits → ℕ) (one_at : Limits → ℕ → Reader (Option (List ℕ))) (n j : ℕ) → Local b (λ e. texts_at (one_at e.lim) (room e.lim - suc j)) (TextsG before behind (roomy b.lim) n) → AfterLocal b before behind room one_at (suc n) j
-after_one b before behind room one_at n j x None can = local_give b []
-after_one b before behind room one_at n j x (Some t) can = local_as b (λ e. texts_at (one_at e.lim) (room e.lim - j - 1)) (λ xs. t ∷ xs) (TextsG before behind (roomy b.lim) n)
-    (local_eq b (λ e. texts_at (one_at e.lim) (room e.lim - j - 1)) (λ e. texts_at (one_at e.lim) (room e.lim - suc j)) (TextsG before behind (roomy b.lim) n) (λ e s ts. ap (λ (m : ℕ). texts_at (one_at e.lim) m s ts) (one_later (room e.lim) j)) x)
+after_one : (b : Bounds) (before following : List Token) (room : Limits → ℕ) (one_at : Limits → ℕ → Reader (Option (List ℕ))) (n j : ℕ) → Local b (λ e. texts_at (one_at e.lim) (room e.lim - suc j)) (TextsG before following (roomy b.lim) n) → AfterLocal b before following room one_at (suc n) j
+after_one b before following room one_at n j x None can = local_give b []
+after_one b before following room one_at n j x (Some t) can = local_as b (λ e. texts_at (one_at e.lim) (room e.lim - j - 1)) (λ xs. t ∷ xs) (TextsG before following (roomy b.lim) n)
+    (local_eq b (λ e. texts_at (one_at e.lim) (room e.lim - j - 1)) (λ e. texts_at (one_at e.lim) (room e.lim - suc j)) (TextsG before following (roomy b.lim) n) (λ e s ts. ap (λ (m : ℕ). texts_at (one_at e.lim) m s ts) (one_later (room e.lim) j)) x)
 
-local_texts : (b : Bounds) (before behind : List Token) (room : Limits → ℕ) (one_at : Limits → ℕ → Reader (Option (List ℕ))) → OneAt b before behind room one_at → (n j : ℕ) → room b.lim - j ≡ n → Local b (λ e. texts_at (one_at e.lim) (room e.lim - j)) (TextsG before behind (roomy b.lim) n)
-local_texts b before behind room one_at w zero j left = texts_from b before behind room one_at w zero j (after_last b before behind room one_at w j left)
-local_texts b before behind room one_at w (suc n) j left = texts_from b before behind room one_at w (suc n) j (after_one b before behind room one_at n j (local_texts b before behind room one_at w n (suc j) (later_left (room b.lim) j n left)))
+local_texts : (b : Bounds) (before following : List Token) (room : Limits → ℕ) (one_at : Limits → ℕ → Reader (Option (List ℕ))) → OneAt b before following room one_at → (n j : ℕ) → room b.lim - j ≡ n → Local b (λ e. texts_at (one_at e.lim) (room e.lim - j)) (TextsG before following (roomy b.lim) n)
+local_texts b before following room one_at w zero j left = texts_from b before following room one_at w zero j (after_last b before following room one_at w j left)
+local_texts b before following room one_at w (suc n) j left = texts_from b before following room one_at w (suc n) j (after_one b before following room one_at n j (local_texts b before following room one_at w n (suc j) (later_left (room b.lim) j n left)))
 
 less_none : (m : ℕ) → m ≡ m - 0
 less_none m = omega arith
 
-all_texts : (b : Bounds) (before behind : List Token) (room : Limits → ℕ) (one_at : Limits → ℕ → Reader (Option (List ℕ))) → OneAt b before behind room one_at → Local b (λ e. texts_at (one_at e.lim) (room e.lim)) (TextsG before behind (roomy b.lim) (room b.lim - 0))
-all_texts b before behind room one_at w = local_eq b (λ e. texts_at (one_at e.lim) (room e.lim)) (λ e. texts_at (one_at e.lim) (room e.lim - 0)) (TextsG before behind (roomy b.lim) (room b.lim - 0)) (λ e s ts. ap (λ (m : ℕ). texts_at (one_at e.lim) m s ts) (less_none (room e.lim))) (local_texts b before behind room one_at w (room b.lim - 0) 0 refl)
+all_texts : (b : Bounds) (before following : List Token) (room : Limits → ℕ) (one_at : Limits → ℕ → Reader (Option (List ℕ))) → OneAt b before following room one_at → Local b (λ e. texts_at (one_at e.lim) (room e.lim)) (TextsG before following (roomy b.lim) (room b.lim - 0))
+all_texts b before following room one_at w = local_eq b (λ e. texts_at (one_at e.lim) (room e.lim)) (λ e. texts_at (one_at e.lim) (room e.lim - 0)) (TextsG before following (roomy b.lim) (room b.lim - 0)) (λ e s ts. ap (λ (m : ℕ). texts_at (one_at e.lim) m s ts) (less_none (room e.lim))) (local_texts b before following room one_at w (room b.lim - 0) 0 refl)
 
 pub local_more_words : (b : Bounds) → Local b (λ e. texts_at (command_word_at e.lim) e.lim.more_words) (TextsG [] [] (roomy b.lim) (b.lim.more_words - 0))
 local_more_words b = all_texts b [] [] (λ l. l.more_words) command_word_at (record { local = local_command_word b; shut = λ l. shuts [] [] l (command_word_at l) (finds_command_word l) })
@@ -302,7 +303,7 @@ local_more_items b = all_texts b (Mark 44 ∷ []) (Mark 93 ∷ []) (λ l. l.more
 
 mark_for : (b : Bounds) (c : ℕ) (k : Token) → LocalFor b (λ e. mark_choice c k) (Single (IsMark c)) k
 mark_for b c (Mark m) = elim (which (m == c)) [
-  | inl is ↦ for_give b (λ e. mark_choice c (Mark m)) (Single (IsMark c)) (Mark m) tt (λ e w. rw is refl) (Mark m, refl, ap Mark (is_equal m c is))
+  | inl is ↦ for_give b (λ e. mark_choice c (Mark m)) (Single (IsMark c)) (Mark m) tt (λ e w. rw is refl) (Mark m, refl, ap Mark (nat_is m c is))
   | inr is ↦ for_syntax b (λ e. mark_choice c (Mark m)) (Single (IsMark c)) (Mark m) (tt, Mark c, [], (Mark c, refl, refl)) (λ e. rw is refl)
 ]
 mark_for b c (Name m) = for_syntax b _ (Single (IsMark c)) (Name m) (tt, Mark c, [], (Mark c, refl, refl)) (λ e. refl)
@@ -375,7 +376,7 @@ literal_mark b m = elim (which (m == 91)) [
     λ e. seq (items_at e.lim) (λ ts. give (list_of ts)),
     λ e w. rw is refl,
     local_same b (λ e. seq (items_at e.lim) (λ ts. give (list_of ts))) (Dressed list_of (Items (roomy b.lim))) (λ v more. IsLiteral (roomy b.lim) v (Mark m ∷ more))
-        (local_as b (λ e. items_at e.lim) list_of (Items (roomy b.lim)) (local_items b)) (list_lit (roomy b.lim) m (is_equal m 91 is)),
+        (local_as b (λ e. items_at e.lim) list_of (Items (roomy b.lim)) (local_items b)) (list_lit (roomy b.lim) m (nat_is m 91 is)),
   )
   | inr is ↦ for_syntax b (λ e. literal_choice e.lim (Mark m)) (IsLiteral (roomy b.lim)) (Mark m) (begins_literal (roomy b.lim)) (λ e. rw is refl)
 ]
@@ -403,10 +404,10 @@ still m n h is = let some = some_left m is in not_none n (omega (arith, some, h)
 open_mark : (b : Bounds) (m : ℕ) → LocalFor b (λ e. open_choice e.depth e.terms (Mark m)) OpenG (Mark m)
 open_mark b m = elim (which (m == 40)) [
   | inl is ↦ elim (which (b.terms == 0)) [
-    | inl none ↦ inl (beyond limit.Terms, λ e x u. rw (is, rw u.1 at none) refl, λ t same. (refl, refl, (tt, [], (λ i. same i ∷ []) ∙ (λ i. Mark (is_equal m 40 is i) ∷ []))))
+    | inl none ↦ inl (beyond limit.Terms, λ e x u. rw (is, rw u.1 at none) refl, λ t same. (refl, refl, (tt, [], (λ i. same i ∷ []) ∙ (λ i. Mark (nat_is m 40 is i) ∷ []))))
     | inr some ↦ elim (which (b.depth == 0)) [
-      | inl deep ↦ inl (beyond limit.Depth, λ e x u. rw (is, still b.terms e.terms u.0.terms some, rw u.1 at deep) refl, λ t same. (refl, refl, (tt, [], (λ i. same i ∷ []) ∙ (λ i. Mark (is_equal m 40 is i) ∷ []))))
-      | inr high ↦ for_give b (λ e. open_choice e.depth e.terms (Mark m)) OpenG (Mark m) tt (λ e w. rw (is, still b.terms e.terms w.terms some, still b.depth e.depth w.depth high) refl) (λ i. Mark (is_equal m 40 is i) ∷ [])
+      | inl deep ↦ inl (beyond limit.Depth, λ e x u. rw (is, still b.terms e.terms u.0.terms some, rw u.1 at deep) refl, λ t same. (refl, refl, (tt, [], (λ i. same i ∷ []) ∙ (λ i. Mark (nat_is m 40 is i) ∷ []))))
+      | inr high ↦ for_give b (λ e. open_choice e.depth e.terms (Mark m)) OpenG (Mark m) tt (λ e w. rw (is, still b.terms e.terms w.terms some, still b.depth e.depth w.depth high) refl) (λ i. Mark (nat_is m 40 is i) ∷ [])
     ]
   ]
   | inr is ↦ for_syntax b (λ e. open_choice e.depth e.terms (Mark m)) OpenG (Mark m) (tt, Mark 40, [], refl) (λ e. rw is refl)

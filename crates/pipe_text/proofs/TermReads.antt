@@ -17,7 +17,7 @@ use Rattle.pipe_text.specs.declared.fault.LimitName.{LimitName}
 use Rattle.pipe_text.specs.declared.fault.LimitName.TheVariants as limit
 use Rattle.pipe_text.specs.Words.{body_letters, body_word, fun_letters, fun_word, kind_letters, kind_word}
 use Rattle.value_core.specs.Literals.{tokens_in, is_mark_of}
-use Rattle.pipe_text.specs.Readers.{Reader, give, seq, mark_at, word_at, is_string, next_passes}
+use Rattle.pipe_text.specs.inside.Readers.{Reader, give, seq, mark_at, word_at, is_string, next_passes}
 use Rattle.pipe_text.specs.Grammar.{
   Limits,
   NameIs,
@@ -56,7 +56,7 @@ use Rattle.pipe_text.specs.Grammar.{
   no_more,
   one_more,
 }
-use Rattle.pipe_text.specs.TermReading.{name_choice, name_at, text_choice, text_at, number_choice, number_at, room_choice, room_at, item_choice, item_at, command_word_at, with_text_read, texts_at, items_at, literal_choice, literal_at, Counted, open_choice, open_at, two_at, part_at, parts_at, body_at, term_at}
+use Rattle.pipe_text.specs.inside.TermReading.{name_choice, name_at, text_choice, text_at, number_choice, number_at, room_choice, room_at, item_choice, item_at, command_word_at, with_text_read, texts_at, items_at, literal_choice, literal_at, Counted, open_choice, open_at, two_at, part_at, parts_at, body_at, term_at}
 use Rattle.pipe_text.proofs.Exactly.{ReadsIf, Any, Takes, reads_if, reads_give, reads_seq, reads_then, reads_as, reads_branch, reads_yes, reads_no, reads_mark, reads_word, cons_is, nil_of}
 use Rattle.pipe_text.proofs.WordLaws.{body_word_is, fun_word_is, kind_word_is}
 
@@ -143,24 +143,24 @@ reads_room lim wide what m n LongName u some e = absurd e
 
 -- what reads one text of a list or a command: the end of them, or one more where there is room
 abbrev Stops : (List TokenAt → Type 0) → (ℕ → Reader (Option (List ℕ))) → List Token → Type 0
-Stops P r behind = (n : ℕ) → ReadsIf P (r n) None behind
+Stops P r following = (n : ℕ) → ReadsIf P (r n) None following
 
 abbrev GoesOnWith : Limits → (ℕ → Reader (Option (List ℕ))) → List Token → Type 0
 GoesOnWith lim r before = (n : ℕ) (t : List ℕ) (k : Token) → 0 < n → TextIs lim t k → Takes (r n) (Some t) (before ++ k ∷ [])
 
-reads_none_more : (P : List TokenAt → Type 0) (r : Reader (Option (List ℕ))) (q : Reader (List (List ℕ))) (behind : List Token) → ReadsIf P r None behind → ReadsIf P (seq r (λ o. with_text_read o q)) [] behind
-reads_none_more P r q behind x = subst (λ (l : List Token). ReadsIf P (seq r (λ o. with_text_read o q)) [] l) (append-nil behind)
-    (reads_seq P P r (λ o. with_text_read o q) None [] behind [] (λ front rest e p. rw (nil_of front e) p) x (reads_give P []))
+reads_none_more : (P : List TokenAt → Type 0) (r : Reader (Option (List ℕ))) (q : Reader (List (List ℕ))) (following : List Token) → ReadsIf P r None following → ReadsIf P (seq r (λ o. with_text_read o q)) [] following
+reads_none_more P r q following x = subst (λ (l : List Token). ReadsIf P (seq r (λ o. with_text_read o q)) [] l) (append-nil following)
+    (reads_seq P P r (λ o. with_text_read o q) None [] following [] (λ front rest e p. rw (nil_of front e) p) x (reads_give P []))
 
-pub reads_texts : (P : List TokenAt → Type 0) (before behind : List Token) (lim : Limits) (r : ℕ → Reader (Option (List ℕ))) → Stops P r behind → GoesOnWith lim r before
-    → (ts : List (List ℕ)) (n : ℕ) (ks : List Token) → length ts ≤ n → Texts before behind lim ts ks → ReadsIf P (texts_at r n) ts ks
+pub reads_texts : (P : List TokenAt → Type 0) (before following : List Token) (lim : Limits) (r : ℕ → Reader (Option (List ℕ))) → Stops P r following → GoesOnWith lim r before
+    → (ts : List (List ℕ)) (n : ℕ) (ks : List Token) → length ts ≤ n → Texts before following lim ts ks → ReadsIf P (texts_at r n) ts ks
 unfolding texts_at
-reads_texts P before behind lim r stops goes [] zero ks h e = rw e (reads_none_more P (r 0) (give []) behind (stops 0))
-reads_texts P before behind lim r stops goes [] (suc n) ks h e = rw e (reads_none_more P (r (suc n)) (texts_at r n) behind (stops (suc n)))
-reads_texts P before behind lim r stops goes (t ∷ ts) zero ks h e = absurd (omega arith)
-reads_texts P before behind lim r stops goes (t ∷ ts) (suc n) ks h (k, more, parts, is, rest) =
+reads_texts P before following lim r stops goes [] zero ks h e = rw e (reads_none_more P (r 0) (give []) following (stops 0))
+reads_texts P before following lim r stops goes [] (suc n) ks h e = rw e (reads_none_more P (r (suc n)) (texts_at r n) following (stops (suc n)))
+reads_texts P before following lim r stops goes (t ∷ ts) zero ks h e = absurd (omega arith)
+reads_texts P before following lim r stops goes (t ∷ ts) (suc n) ks h (k, more, parts, is, rest) =
     rw (parts, sym (append_assoc before (k ∷ []) more)) (reads_then P (r (suc n)) (λ o. with_text_read o (texts_at r n)) (Some t) (t ∷ ts) (before ++ k ∷ []) more (goes (suc n) t k (omega arith) is)
-    (reads_as P (texts_at r n) (λ x. t ∷ x) ts more (reads_texts P before behind lim r stops goes ts n more (omega arith) rest)))
+    (reads_as P (texts_at r n) (λ x. t ∷ x) ts more (reads_texts P before following lim r stops goes ts n more (omega arith) rest)))
 
 reads_end : (wide : Limits) → Stops Any (item_at wide) (Mark 93 ∷ [])
 unfolding item_at

@@ -14,7 +14,7 @@ use Rattle.pipe_text.specs.declared.fault.LimitName.{LimitName}
 use Rattle.pipe_text.specs.declared.words.BodyWord.{BodyWord}
 use Rattle.pipe_text.specs.declared.words.BodyWord.TheVariants as word
 use Rattle.pipe_text.specs.Words.{fun_letters, kind_letters}
-use Rattle.pipe_text.specs.Standing.{file_limits}
+use Rattle.pipe_text.specs.Files.{file_limits}
 use Rattle.pipe_text.specs.Grammar.{
   NameIs,
   TextIs,
@@ -52,6 +52,7 @@ use Rattle.pipe_text.specs.Grammar.{
   one_more,
 }
 use Rattle.pipe_text.specs.Printing.{item_layer, item_tokens, more_items, items_tokens, literal_layer, literal_tokens, term_tokens, term_tokens_step}
+use Rattle.value_core.proofs.Layers.{out_at}
 
 -- ---- names, texts and numbers
 
@@ -98,9 +99,6 @@ number_is what n LongText e = absurd e
 -- the tokens are these, and none is too long
 abbrev pub Are : List Token → List Token → Type 0
 Are ks ls = (ks ≡ ls) × AllShort ks
-
-pub out_at : (l : Value-F Outcome Value) (v : Value) → roll-Value l ≡ v → out-Value v ≡ l
-out_at l v e = ap out-Value (sym e) ∙ out-roll-Value l
 
 item_is : (t : List ℕ) → item_tokens (value.Words t) ≡ Words t ∷ []
 item_is t = ap item_layer (out_at (Value-F.Words t) (value.Words t) (value.rolls-Words t))
@@ -152,8 +150,8 @@ form_are w ks ls x t e step (is, short) = (ap (form w) is ∙ sym step ∙ sym (
 pub both_are : (ka la kb lb : List Token) → Are ka la → Are kb lb → Are (ka ++ kb) (la ++ lb)
 both_are ka la kb lb (is, short) (same, brief) = ((λ i. is i ++ same i), each_both IsShort ka kb short brief)
 
-pub behind_are : (k l : Token) (ks ls : List Token) → (k ≡ l) × IsShort k → Are ks ls → Are (k ∷ ks) (l ∷ ls)
-behind_are k l ks ls (is, short) (same, brief) = ((λ i. is i ∷ same i), (short, brief))
+pub following_are : (k l : Token) (ks ls : List Token) → (k ≡ l) × IsShort k → Are ks ls → Are (k ∷ ks) (l ∷ ls)
+following_are k l ks ls (is, short) (same, brief) = ((λ i. is i ∷ same i), (short, brief))
 
 pub none_are : Are [] []
 none_are = (refl, tt)
@@ -162,32 +160,32 @@ none_are = (refl, tt)
 pub spelled_are : (d m : ℕ) (w : What) (ks : List Token) → Spells file_limits d m w ks → Are ks (tokens_of w)
 spelled_are d m w ks (is_return c v k x) = form_are word.Return k (literal_tokens v) (Term-F.Return v) (term.Return v) (term.rolls-Return v) refl (literal_are v k x)
 spelled_are d m w ks (is_fail c f t k x) =
-    form_are word.Fail (Name (kind_letters f) ∷ k ∷ []) (Name (kind_letters f) ∷ Words t ∷ []) (Term-F.Fail f t) (term.Fail f t) (term.rolls-Fail f t) refl (behind_are _ _ (k ∷ []) (Words t ∷ []) (refl, tt) (behind_are k (Words t) [] [] (text_is t k x) none_are))
-spelled_are d m w ks (is_input c n k x) = form_are word.Input (k ∷ []) (Name n ∷ []) (Term-F.Input n) (term.Input n) (term.rolls-Input n) refl (behind_are k (Name n) [] [] (name_is n k x) none_are)
-spelled_are d m w ks (is_node c n k x) = form_are word.Node (k ∷ []) (Name n ∷ []) (Term-F.Node n) (term.Node n) (term.rolls-Node n) refl (behind_are k (Name n) [] [] (name_is n k x) none_are)
-spelled_are d m w ks (is_var c n k x) = form_are word.Var (k ∷ []) (Name n ∷ []) (Term-F.Var n) (term.Var n) (term.rolls-Var n) refl (behind_are k (Name n) [] [] (name_is n k x) none_are)
+    form_are word.Fail (Name (kind_letters f) ∷ k ∷ []) (Name (kind_letters f) ∷ Words t ∷ []) (Term-F.Fail f t) (term.Fail f t) (term.rolls-Fail f t) refl (following_are _ _ (k ∷ []) (Words t ∷ []) (refl, tt) (following_are k (Words t) [] [] (text_is t k x) none_are))
+spelled_are d m w ks (is_input c n k x) = form_are word.Input (k ∷ []) (Name n ∷ []) (Term-F.Input n) (term.Input n) (term.rolls-Input n) refl (following_are k (Name n) [] [] (name_is n k x) none_are)
+spelled_are d m w ks (is_node c n k x) = form_are word.Node (k ∷ []) (Name n ∷ []) (Term-F.Node n) (term.Node n) (term.rolls-Node n) refl (following_are k (Name n) [] [] (name_is n k x) none_are)
+spelled_are d m w ks (is_var c n k x) = form_are word.Var (k ∷ []) (Name n ∷ []) (Term-F.Var n) (term.Var n) (term.rolls-Var n) refl (following_are k (Name n) [] [] (name_is n k x) none_are)
 spelled_are d m w ks (is_map c i f a ka x) =
-    form_are word.Map (Name (fun_letters f) ∷ ka) (Name (fun_letters f) ∷ term_tokens a) (Term-F.Map f a) (term.Map f a) (term.rolls-Map f a) refl (behind_are _ _ ka (term_tokens a) (refl, tt) (spelled_are c i (one a) ka x))
+    form_are word.Map (Name (fun_letters f) ∷ ka) (Name (fun_letters f) ∷ term_tokens a) (Term-F.Map f a) (term.Map f a) (term.rolls-Map f a) refl (following_are _ _ ka (term_tokens a) (refl, tt) (spelled_are c i (one a) ka x))
 spelled_are d m w ks (is_pair c i j a b ka kb x y) =
     form_are word.Pair (ka ++ kb) (term_tokens a ++ term_tokens b) (Term-F.Pair a b) (term.Pair a b) (term.rolls-Pair a b) refl (both_are ka (term_tokens a) kb (term_tokens b) (spelled_are c i (one a) ka x) (spelled_are c j (one b) kb y))
 spelled_are d m w ks (is_bind c i j z k a b ka kb h x y) =
     form_are word.Bind (k ∷ (ka ++ kb)) (Name z ∷ (term_tokens a ++ term_tokens b)) (Term-F.Bind z a b) (term.Bind z a b) (term.rolls-Bind z a b) refl
-    (behind_are k (Name z) (ka ++ kb) (term_tokens a ++ term_tokens b) (name_is z k h) (both_are ka (term_tokens a) kb (term_tokens b) (spelled_are c i (one a) ka x) (spelled_are c j (one b) kb y)))
+    (following_are k (Name z) (ka ++ kb) (term_tokens a ++ term_tokens b) (name_is z k h) (both_are ka (term_tokens a) kb (term_tokens b) (spelled_are c i (one a) ka x) (spelled_are c j (one b) kb y)))
 spelled_are d m w ks (is_list_map c i j z k a b ka kb h x y) =
     form_are word.ListMap (k ∷ (ka ++ kb)) (Name z ∷ (term_tokens a ++ term_tokens b)) (Term-F.ListMap z a b) (term.ListMap z a b) (term.rolls-ListMap z a b) refl
-    (behind_are k (Name z) (ka ++ kb) (term_tokens a ++ term_tokens b) (name_is z k h) (both_are ka (term_tokens a) kb (term_tokens b) (spelled_are c i (one a) ka x) (spelled_are c j (one b) kb y)))
+    (following_are k (Name z) (ka ++ kb) (term_tokens a ++ term_tokens b) (name_is z k h) (both_are ka (term_tokens a) kb (term_tokens b) (spelled_are c i (one a) ka x) (spelled_are c j (one b) kb y)))
 spelled_are d m w ks (is_list_iter c i j z k a b ka kb h x y) =
     form_are word.ListIter (k ∷ (ka ++ kb)) (Name z ∷ (term_tokens a ++ term_tokens b)) (Term-F.ListIter z a b) (term.ListIter z a b) (term.rolls-ListIter z a b) refl
-    (behind_are k (Name z) (ka ++ kb) (term_tokens a ++ term_tokens b) (name_is z k h) (both_are ka (term_tokens a) kb (term_tokens b) (spelled_are c i (one a) ka x) (spelled_are c j (one b) kb y)))
+    (following_are k (Name z) (ka ++ kb) (term_tokens a ++ term_tokens b) (name_is z k h) (both_are ka (term_tokens a) kb (term_tokens b) (spelled_are c i (one a) ka x) (spelled_are c j (one b) kb y)))
 spelled_are d m w ks (is_catch c i a ka x) = form_are word.Catch ka (term_tokens a) (Term-F.Catch a) (term.Catch a) (term.rolls-Catch a) refl (spelled_are c i (one a) ka x)
 spelled_are d m w ks (is_state c i a ka x) = form_are word.State ka (term_tokens a) (Term-F.State a) (term.State a) (term.rolls-State a) refl (spelled_are c i (one a) ka x)
 spelled_are d m w ks (is_gate c i j a b ka kb x y) =
     form_are word.Gate (ka ++ kb) (term_tokens a ++ term_tokens b) (Term-F.Gate a b) (term.Gate a b) (term.rolls-Gate a b) refl (both_are ka (term_tokens a) kb (term_tokens b) (spelled_are c i (one a) ka x) (spelled_are c j (one b) kb y))
 spelled_are d m w ks (is_all c i ts k x) = form_are word.All k (flat_map (λ (l : List Token). l) (map term_tokens ts)) (Term-F.All ts) (term.All ts) (term.rolls-All ts) refl (spelled_are c i (many ts) k x)
 spelled_are d m w ks (is_build c i n k a ka h x) =
-    form_are word.Build (k ∷ ka) (Name n ∷ term_tokens a) (Term-F.Build n a) (term.Build n a) (term.rolls-Build n a) refl (behind_are k (Name n) ka (term_tokens a) (name_is n k h) (spelled_are c i (one a) ka x))
+    form_are word.Build (k ∷ ka) (Name n ∷ term_tokens a) (Term-F.Build n a) (term.Build n a) (term.rolls-Build n a) refl (following_are k (Name n) ka (term_tokens a) (name_is n k h) (spelled_are c i (one a) ka x))
 spelled_are d m w ks (is_output c i j z k a b ka kb h x y) =
     form_are word.Output (k ∷ (ka ++ kb)) (Name z ∷ (term_tokens a ++ term_tokens b)) (Term-F.Output z a b) (term.Output z a b) (term.rolls-Output z a b) refl
-    (behind_are k (Name z) (ka ++ kb) (term_tokens a ++ term_tokens b) (name_is z k h) (both_are ka (term_tokens a) kb (term_tokens b) (spelled_are c i (one a) ka x) (spelled_are c j (one b) kb y)))
+    (following_are k (Name z) (ka ++ kb) (term_tokens a ++ term_tokens b) (name_is z k h) (both_are ka (term_tokens a) kb (term_tokens b) (spelled_are c i (one a) ka x) (spelled_are c j (one b) kb y)))
 spelled_are d m w ks (no_more c) = none_are
 spelled_are d m w ks (one_more c i j a more ka k x y) = both_are ka (term_tokens a) k (flat_map (λ (l : List Token). l) (map term_tokens more)) (spelled_are c i (one a) ka x) (spelled_are c j (many more) k y)

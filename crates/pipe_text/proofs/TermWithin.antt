@@ -13,11 +13,12 @@ use Rattle.value_core.specs.Parts.{text_values}
 use Rattle.value_core.specs.Values.{outcome_weight_step, weight_step, weight_of}
 use Rattle.term_core.specs.declared.program.Term.{Term, Term-F, roll-Term, map-Term, fold-roll-Term}
 use Rattle.term_core.specs.declared.program.Term.TheVariants as term
-use Rattle.term_core.specs.Limits.{is_name, is_text as fits_text, is_text_layer, is_input_layer, is_literal_layer, is_literal, words_step, has_good_words, parts_of, greatest, terms_in, depth_of}
+use Rattle.value_core.specs.Names.{is_name}
+use Rattle.term_core.specs.Limits.{is_text as fits_text, is_text_layer, is_input_layer, is_literal_layer, is_literal, words_step, has_good_words, parts_of, greatest, terms_in, depth_of}
 use Rattle.pipe_text.specs.declared.words.BodyWord.{BodyWord}
 use Rattle.pipe_text.specs.declared.words.BodyWord.TheVariants as word
 use Rattle.pipe_text.specs.Words.{fun_letters, kind_letters}
-use Rattle.pipe_text.specs.Standing.{file_limits}
+use Rattle.pipe_text.specs.Files.{file_limits}
 use Rattle.pipe_text.specs.Grammar.{
   NameIs,
   TextIs,
@@ -54,6 +55,8 @@ use Rattle.pipe_text.specs.Grammar.{
   one_more,
 }
 use Rattle.pipe_text.proofs.GoodTokens.{IsGood, bytes_of, bytes_in, Good, bytes_append, good_left, good_right, good_rest, good_first}
+use Rattle.value_core.proofs.Basics.{and_both, is_nat_le}
+use Rattle.value_core.proofs.Layers.{list_weight, num_weight, out_at, unit_weight, words_weight}
 
 -- ---- names and texts
 
@@ -83,27 +86,6 @@ text_bytes t LongName e = absurd e
 
 -- ---- literals
 
-out_at : (l : Value-F Outcome Value) (v : Value) → roll-Value l ≡ v → out-Value v ≡ l
-out_at l v e = ap out-Value (sym e) ∙ out-roll-Value l
-
-words_weight : (t : List ℕ) → weight_of (value.Words t) ≡ length t + 1
-words_weight t = ap weight_of (sym (value.rolls-Words t)) ∙ fold-roll-Value ℕ ℕ outcome_weight_step weight_step (Value-F.Words t)
-
-num_weight : (n : ℕ) → weight_of (value.Num n) ≡ 1
-num_weight n = ap weight_of (sym (value.rolls-Num n)) ∙ fold-roll-Value ℕ ℕ outcome_weight_step weight_step (Value-F.Num n)
-
-unit_weight : weight_of value.Unit ≡ 1
-unit_weight = ap weight_of (sym value.rolls-Unit) ∙ fold-roll-Value ℕ ℕ outcome_weight_step weight_step Value-F.Unit
-
-list_weight : (xs : List Value) → weight_of (value.List xs) ≡ 1 + sum (map weight_of xs)
-list_weight xs = ap weight_of (sym (value.rolls-List xs)) ∙ fold-roll-Value ℕ ℕ outcome_weight_step weight_step (Value-F.List xs)
-
-and_of : (a b : Bool) → a ≡ true → b ≡ true → (a && b) ≡ true
-and_of a b e h = rw (e, h) refl
-
-below : (m n : ℕ) → m ≤ n → nat_le m n ≡ true
-below m n h = grind (arith, nat_tests)
-
 abbrev pub TextsWithin : List (List ℕ) → ℕ → Type 0
 TextsWithin ts n = (list_all (λ x. is_text_layer (out-Value x)) (text_values ts) ≡ true) × (sum (map weight_of (text_values ts)) ≤ n) × (length (text_values ts) ≡ length ts)
 
@@ -111,17 +93,17 @@ one_more_within : (t : List ℕ) (ts : List (List ℕ)) (n : ℕ) → fits_text 
 one_more_within t ts n g (all, few, same) =
     let weight = words_weight t in
     let sums = sum_by-cons (λ x. x) (weight_of (value.Words t)) (map weight_of (text_values ts)) in (
-      and_of _ _ (rw (out_at (Value-F.Words t) (value.Words t) (value.rolls-Words t)) g) all,
+      and_both _ _ (rw (out_at (Value-F.Words t) (value.Words t) (value.rolls-Words t)) g) all,
       omega (arith, few, weight, sums),
       ap suc same,
     )
 
-texts_within : (before behind : List Token) (ts : List (List ℕ)) (ks : List Token) → Texts before behind file_limits ts ks → Good ks → TextsWithin ts (bytes_in ks)
-texts_within before behind [] ks e g = (refl, omega arith, refl)
-texts_within before behind (t ∷ ts) ks (k, more, parts, is, rest) g =
-    let behind_good = good_right before (k ∷ more) (subst Good parts g) in
-    let later = texts_within before behind ts more rest (good_rest k more behind_good) in
-    let here = one_more_within t ts (bytes_in more) (text_good t k is (good_first k more behind_good)) later in
+texts_within : (before following : List Token) (ts : List (List ℕ)) (ks : List Token) → Texts before following file_limits ts ks → Good ks → TextsWithin ts (bytes_in ks)
+texts_within before following [] ks e g = (refl, omega arith, refl)
+texts_within before following (t ∷ ts) ks (k, more, parts, is, rest) g =
+    let following_good = good_right before (k ∷ more) (subst Good parts g) in
+    let later = texts_within before following ts more rest (good_rest k more following_good) in
+    let here = one_more_within t ts (bytes_in more) (text_good t k is (good_first k more following_good)) later in
     let some = text_bytes t k is in
     let sum_of = bytes_append before (k ∷ more) in
     let whole : bytes_in ks ≡ bytes_in (before ++ k ∷ more) = ap bytes_in parts in
@@ -145,7 +127,7 @@ items_within (t ∷ ts) k ks (j, more, parts, is, few, rest) g =
     (here.0, omega (arith, fits, some, small), omega (arith, same, few))
 
 pub list_layer : (ts : List (List ℕ)) → ItemsWithin ts → is_input_layer (out-Value (list_of ts)) ≡ true
-list_layer ts (all, few, count) = rw (out_at (Value-F.List (text_values ts)) (list_of ts) (value.rolls-List (text_values ts))) (and_of _ _ (below (length (text_values ts)) 256 count) all)
+list_layer ts (all, few, count) = rw (out_at (Value-F.List (text_values ts)) (list_of ts) (value.rolls-List (text_values ts))) (and_both _ _ (is_nat_le (length (text_values ts)) 256 count) all)
 
 pub list_light : (ts : List (List ℕ)) → ItemsWithin ts → weight_of (list_of ts) ≤ 1048576
 list_light ts (all, few, count) = let w = list_weight (text_values ts) in omega (arith, w, few)
@@ -166,16 +148,16 @@ pub num_light : (n : ℕ) → weight_of (value.Num n) ≤ 1048576
 num_light n = let w = num_weight n in omega (arith, w)
 
 words_literal : (t : List ℕ) → fits_text t ≡ true → is_literal (value.Words t) ≡ true
-words_literal t g = and_of _ _ (rw (out_at (Value-F.Words t) (value.Words t) (value.rolls-Words t)) g) (below _ _ (words_light t g))
+words_literal t g = and_both _ _ (rw (out_at (Value-F.Words t) (value.Words t) (value.rolls-Words t)) g) (is_nat_le _ _ (words_light t g))
 
 num_literal : (n : ℕ) → nat_lt n (2 ^ 64) ≡ true → is_literal (value.Num n) ≡ true
-num_literal n bits = and_of _ _ (rw (out_at (Value-F.Num n) (value.Num n) (value.rolls-Num n)) bits) (below _ _ (num_light n))
+num_literal n bits = and_both _ _ (rw (out_at (Value-F.Num n) (value.Num n) (value.rolls-Num n)) bits) (is_nat_le _ _ (num_light n))
 
 unit_literal : is_literal value.Unit ≡ true
-unit_literal = and_of (is_literal_layer (out-Value value.Unit)) (nat_le (weight_of value.Unit) 1048576) (rw (out_at Value-F.Unit value.Unit value.rolls-Unit) refl) (below _ _ (let w = unit_weight in omega (arith, w)))
+unit_literal = and_both (is_literal_layer (out-Value value.Unit)) (nat_le (weight_of value.Unit) 1048576) (rw (out_at Value-F.Unit value.Unit value.rolls-Unit) refl) (is_nat_le _ _ (let w = unit_weight in omega (arith, w)))
 
 list_literal : (ts : List (List ℕ)) → ItemsWithin ts → is_literal (list_of ts) ≡ true
-list_literal ts w = and_of _ _ (rw (out_at (Value-F.List (text_values ts)) (list_of ts) (value.rolls-List (text_values ts))) (and_of _ _ (below (length (text_values ts)) 256 w.2) w.0)) (below _ _ (list_light ts w))
+list_literal ts w = and_both _ _ (rw (out_at (Value-F.List (text_values ts)) (list_of ts) (value.rolls-List (text_values ts))) (and_both _ _ (is_nat_le (length (text_values ts)) 256 w.2) w.0)) (is_nat_le _ _ (list_light ts w))
 
 pub literal_within : (v : Value) (ks : List Token) → IsLiteral file_limits v ks → Good ks → is_literal v ≡ true
 literal_within v ks (is_text t k e) g = words_literal t (text_good t k e (good_first k [] g))
@@ -219,9 +201,9 @@ one_deep a d e = omega (arith, e)
 more_within : (d m n : ℕ) (a : Term) (ts : List Term) → Within d m (one a) → Within d n (many ts) → Within d (m + n) (many (a ∷ ts))
 more_within d m n a ts (c, deep, g) (cs, deeper, gs) =
     let sums = sum_by-cons (λ x. x) (terms_in a) (map terms_in ts) in
-    (omega (arith, c, cs, sums), omega (arith, deep, deeper), and_of _ _ g gs)
+    (omega (arith, c, cs, sums), omega (arith, deep, deeper), and_both _ _ g gs)
 
--- a term of two others behind what stands before them
+-- a term of two others after what stands before them
 two_within : (d m n : ℕ) (a b : Term) (x : Term-F Term) (t : Term) → roll-Term x ≡ t → parts_of (map-Term Term ℕ terms_in x) ≡ terms_in a ∷ terms_in b ∷ [] → parts_of (map-Term Term ℕ depth_of x) ≡ depth_of a ∷ depth_of b ∷ []
     → words_step (map-Term Term Bool has_good_words x) ≡ true → Within d m (one a) → Within d n (one b) → Within (suc d) (1 + (m + n)) (one t)
 two_within d m n a b x t e ps qs words (c1, d1, g1) (c2, d2, g2) = layer d (m + n) x t e (rw ps (two_counts (terms_in a) (terms_in b) m n c1 c2)) (rw qs (two_deep (depth_of a) (depth_of b) d d1 d2)) words
@@ -242,42 +224,42 @@ spelled_within d m w ks (is_pair c i j a b ka kb x y) g =
     let good = good_form word.Pair (ka ++ kb) g in
     let r = spelled_within c i (one a) ka x (good_left ka kb good) in
     let q = spelled_within c j (one b) kb y (good_right ka kb good) in
-    two_within c i j a b (Term-F.Pair a b) (term.Pair a b) (term.rolls-Pair a b) refl refl (and_of _ _ r.2 q.2) r q
+    two_within c i j a b (Term-F.Pair a b) (term.Pair a b) (term.rolls-Pair a b) refl refl (and_both _ _ r.2 q.2) r q
 spelled_within d m w ks (is_bind c i j z k a b ka kb h x y) g =
     let good = good_form word.Bind (k ∷ (ka ++ kb)) g in
     let rest = good_rest k (ka ++ kb) good in
     let r = spelled_within c i (one a) ka x (good_left ka kb rest) in
     let q = spelled_within c j (one b) kb y (good_right ka kb rest) in
-    two_within c i j a b (Term-F.Bind z a b) (term.Bind z a b) (term.rolls-Bind z a b) refl refl (and_of _ _ (name_good z k h (good_first k (ka ++ kb) good)) (and_of _ _ r.2 q.2)) r q
+    two_within c i j a b (Term-F.Bind z a b) (term.Bind z a b) (term.rolls-Bind z a b) refl refl (and_both _ _ (name_good z k h (good_first k (ka ++ kb) good)) (and_both _ _ r.2 q.2)) r q
 spelled_within d m w ks (is_list_map c i j z k a b ka kb h x y) g =
     let good = good_form word.ListMap (k ∷ (ka ++ kb)) g in
     let rest = good_rest k (ka ++ kb) good in
     let r = spelled_within c i (one a) ka x (good_left ka kb rest) in
     let q = spelled_within c j (one b) kb y (good_right ka kb rest) in
-    two_within c i j a b (Term-F.ListMap z a b) (term.ListMap z a b) (term.rolls-ListMap z a b) refl refl (and_of _ _ (name_good z k h (good_first k (ka ++ kb) good)) (and_of _ _ r.2 q.2)) r q
+    two_within c i j a b (Term-F.ListMap z a b) (term.ListMap z a b) (term.rolls-ListMap z a b) refl refl (and_both _ _ (name_good z k h (good_first k (ka ++ kb) good)) (and_both _ _ r.2 q.2)) r q
 spelled_within d m w ks (is_list_iter c i j z k a b ka kb h x y) g =
     let good = good_form word.ListIter (k ∷ (ka ++ kb)) g in
     let rest = good_rest k (ka ++ kb) good in
     let r = spelled_within c i (one a) ka x (good_left ka kb rest) in
     let q = spelled_within c j (one b) kb y (good_right ka kb rest) in
-    two_within c i j a b (Term-F.ListIter z a b) (term.ListIter z a b) (term.rolls-ListIter z a b) refl refl (and_of _ _ (name_good z k h (good_first k (ka ++ kb) good)) (and_of _ _ r.2 q.2)) r q
+    two_within c i j a b (Term-F.ListIter z a b) (term.ListIter z a b) (term.rolls-ListIter z a b) refl refl (and_both _ _ (name_good z k h (good_first k (ka ++ kb) good)) (and_both _ _ r.2 q.2)) r q
 spelled_within d m w ks (is_catch c i a ka x) g = let r = spelled_within c i (one a) ka x (good_form word.Catch ka g) in one_within c i a (Term-F.Catch a) (term.Catch a) (term.rolls-Catch a) refl refl r.2 r
 spelled_within d m w ks (is_state c i a ka x) g = let r = spelled_within c i (one a) ka x (good_form word.State ka g) in one_within c i a (Term-F.State a) (term.State a) (term.rolls-State a) refl refl r.2 r
 spelled_within d m w ks (is_gate c i j a b ka kb x y) g =
     let good = good_form word.Gate (ka ++ kb) g in
     let r = spelled_within c i (one a) ka x (good_left ka kb good) in
     let q = spelled_within c j (one b) kb y (good_right ka kb good) in
-    two_within c i j a b (Term-F.Gate a b) (term.Gate a b) (term.rolls-Gate a b) refl refl (and_of _ _ r.2 q.2) r q
+    two_within c i j a b (Term-F.Gate a b) (term.Gate a b) (term.rolls-Gate a b) refl refl (and_both _ _ r.2 q.2) r q
 spelled_within d m w ks (is_all c i ts k x) g = let r = spelled_within c i (many ts) k x (good_form word.All k g) in layer c i (Term-F.All ts) (term.All ts) (term.rolls-All ts) r.0 r.1 r.2
 spelled_within d m w ks (is_build c i n k a ka h x) g =
     let good = good_form word.Build (k ∷ ka) g in
     let r = spelled_within c i (one a) ka x (good_rest k ka good) in
-    one_within c i a (Term-F.Build n a) (term.Build n a) (term.rolls-Build n a) refl refl (and_of _ _ (name_good n k h (good_first k ka good)) r.2) r
+    one_within c i a (Term-F.Build n a) (term.Build n a) (term.rolls-Build n a) refl refl (and_both _ _ (name_good n k h (good_first k ka good)) r.2) r
 spelled_within d m w ks (is_output c i j z k a b ka kb h x y) g =
     let good = good_form word.Output (k ∷ (ka ++ kb)) g in
     let rest = good_rest k (ka ++ kb) good in
     let r = spelled_within c i (one a) ka x (good_left ka kb rest) in
     let q = spelled_within c j (one b) kb y (good_right ka kb rest) in
-    two_within c i j a b (Term-F.Output z a b) (term.Output z a b) (term.rolls-Output z a b) refl refl (and_of _ _ (name_good z k h (good_first k (ka ++ kb) good)) (and_of _ _ r.2 q.2)) r q
+    two_within c i j a b (Term-F.Output z a b) (term.Output z a b) (term.rolls-Output z a b) refl refl (and_both _ _ (name_good z k h (good_first k (ka ++ kb) good)) (and_both _ _ r.2 q.2)) r q
 spelled_within d m w ks (no_more c) g = (refl, omega arith, refl)
 spelled_within d m w ks (one_more c i j a more ka k x y) g = more_within c i j a more (spelled_within c i (one a) ka x (good_left ka k g)) (spelled_within c j (many more) k y (good_right ka k g))

@@ -20,17 +20,18 @@ use Rattle.pipe_text.specs.declared.fault.Fault.{Fault}
 use Rattle.pipe_text.specs.declared.fault.LimitName.TheVariants as limit
 use Rattle.pipe_text.specs.Grammar.{Limits}
 use Rattle.pipe_text.specs.FileGrammar.{DeclareAll, FileSpells}
-use Rattle.pipe_text.specs.Standing.{Reads, file_limits, IsSpelled, StandsFor, program_of}
-use Rattle.pipe_text.specs.Readers.{give, seq, keyword_at}
-use Rattle.pipe_text.specs.TermReading.{beyond}
-use Rattle.pipe_text.specs.FileReading.{Bounds, file_bounds, version_choice, version_at, all_at, made, program_at, read_of, told}
+use Rattle.pipe_text.specs.Files.{Reads, file_limits, IsSpelled, IsFileOf, program_of}
+use Rattle.pipe_text.specs.inside.Readers.{give, seq, keyword_at}
+use Rattle.pipe_text.specs.inside.TermReading.{beyond}
+use Rattle.pipe_text.specs.inside.FileReading.{Bounds, file_bounds, version_choice, version_at, all_at, made, program_at, read_of, reported}
 use Rattle.pipe_text.proofs.Exactly.{tokens_in-append, split_tokens_in, Any, Takes, reads_branch, reads_give}
-use Rattle.pipe_text.proofs.Finding.{Finds, FindsFor, for_if, finds_by, finds_one, is_equal, bind_ok, ok_is}
+use Rattle.pipe_text.proofs.Finding.{Finds, FindsFor, for_if, finds_by, finds_one, bind_ok, ok_is}
 use Rattle.pipe_text.proofs.TermReads.{Under, under_refl}
 use Rattle.pipe_text.proofs.TermFinds.{finds_keyword}
 use Rattle.pipe_text.proofs.Joined.{Sound}
 use Rattle.pipe_text.proofs.FileFinds.{decls_read}
 use Rattle.pipe_text.proofs.FileReads.{reads_keyword, all_declared}
+use Rattle.value_core.proofs.Basics.{nat_is, nat_lt_not, not_nat_lt}
 
 -- ---- the offset where the tokens end
 
@@ -60,8 +61,8 @@ abbrev pub OneVersion : ℕ → List Token → Type 0
 OneVersion v ks = IsVersion v × (ks ≡ Number v ∷ [])
 
 version_for : (k : Token) → FindsFor (version_choice k) (λ v more. OneVersion v (k ∷ more))
-version_for (Number m) = for_if (m == 1) _ _ _ (λ e. finds_one (λ v more. OneVersion v (Number m ∷ more)) 1 (inl refl, λ i. Number (is_equal m 1 e i) ∷ []))
-    (λ d. for_if (m == 2) _ _ _ (λ e. finds_one (λ v more. OneVersion v (Number m ∷ more)) 2 (inr refl, λ i. Number (is_equal m 2 e i) ∷ [])) (λ e. tt))
+version_for (Number m) = for_if (m == 1) _ _ _ (λ e. finds_one (λ v more. OneVersion v (Number m ∷ more)) 1 (inl refl, λ i. Number (nat_is m 1 e i) ∷ []))
+    (λ d. for_if (m == 2) _ _ _ (λ e. finds_one (λ v more. OneVersion v (Number m ∷ more)) 2 (inr refl, λ i. Number (nat_is m 2 e i) ∷ [])) (λ e. tt))
 version_for (Name m) = tt
 version_for (Words m) = tt
 version_for (Mark m) = tt
@@ -123,10 +124,7 @@ if_else : {X : Type 0} (b : Bool) (f : Fault) (r : Result X Fault) (x : X) → c
 if_else true f r x e = absurd cc
 if_else false f r x e = (refl, e)
 
-at_most : (n m : ℕ) → nat_lt n m ≡ false → m ≤ n
-at_most n m e = grind (arith, nat_tests)
-
-pub read_stands : (bytes : List ℕ) (p : Program) → read_of bytes ≡ Ok p → StandsFor bytes p
+pub read_stands : (bytes : List ℕ) (p : Program) → read_of bytes ≡ Ok p → IsFileOf bytes p
 unfolding read_of
 read_stands bytes p e =
     let parts = if_else (nat_lt 1048576 (length bytes)) (beyond limit.File 0) (program_at file_bounds (lexed bytes).stop (lexed bytes).tokens) p e in
@@ -141,7 +139,7 @@ read_stands bytes p e =
       few_terms = read.sound.terms;
       apart = read.sound.apart refl;
     } in
-    record { few_bytes = at_most 1048576 (length bytes) parts.0; spelling = spelling }
+    record { few_bytes = nat_lt_not 1048576 (length bytes) parts.0; spelling = spelling }
 
 -- ---- what stands there is read
 
@@ -154,25 +152,22 @@ file_read lim depth b v ds offset ts u deep (is, more, parts, spelled) sound =
     let number = (reads_version v is).reads (stop.End offset) two.0 two.1 two.3 tt in
     rw (one.2, two.2, word, number, all_declared lim depth b v ds u deep [] (length two.1) offset two.1 (rw two.4 spelled) (omega arith) sound) refl
 
-not_more : (n m : ℕ) → m ≤ n → nat_lt n m ≡ false
-not_more n m h = grind (arith, nat_tests)
-
-pub standing_read : (bytes : List ℕ) (p : Program) → StandsFor bytes p → read_of bytes ≡ Ok p
+pub standing_read : (bytes : List ℕ) (p : Program) → IsFileOf bytes p → read_of bytes ≡ Ok p
 unfolding read_of
 standing_read bytes p stands =
     let s = stands.spelling in
     let sound : Sound file_bounds s.declarations = record { few = s.few; terms = s.few_terms; apart = λ e. s.apart } in
-    rw (not_more 1048576 (length bytes) stands.few_bytes, s.ended, s.is) (file_read file_limits 64 file_bounds s.version s.declarations (length bytes) (lexed bytes).tokens (under_refl file_limits) (omega arith) s.spelled sound)
+    rw (not_nat_lt 1048576 (length bytes) stands.few_bytes, s.ended, s.is) (file_read file_limits 64 file_bounds s.version s.declarations (length bytes) (lexed bytes).tokens (under_refl file_limits) (omega arith) s.spelled sound)
 
-pub one_program : (bytes : List ℕ) (p q : Program) → read_of bytes ≡ Ok p → StandsFor bytes q → p ≡ q
+pub one_program : (bytes : List ℕ) (p q : Program) → read_of bytes ≡ Ok p → IsFileOf bytes q → p ≡ q
 one_program bytes p q e s = ok_is p q (sym e ∙ standing_read bytes q s)
 
 fault_is_not : (f : Fault) (p : Program) → Err f ≡ Ok p → ⊥
 fault_is_not f p e = absurd cc
 
-refuted : (f : Fault) (p : Program) → ⊥ → Reads (Err (told f)) p
+refuted : (f : Fault) (p : Program) → ⊥ → Reads (Err (reported f)) p
 refuted f p never = absurd never
 
 -- where the bytes stand for a program there is no fault
-pub no_fault : (bytes : List ℕ) (f : Fault) (p : Program) → read_of bytes ≡ Err f → StandsFor bytes p → Reads (Err (told f)) p
+pub no_fault : (bytes : List ℕ) (f : Fault) (p : Program) → read_of bytes ≡ Err f → IsFileOf bytes p → Reads (Err (reported f)) p
 no_fault bytes f p e s = refuted f p (fault_is_not f p (sym e ∙ standing_read bytes p s))

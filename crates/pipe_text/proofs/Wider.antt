@@ -5,8 +5,8 @@ use Rattle.pipe_text.specs.declared.fault.Fault.TheVariants.{Lex, Syntax, Limit,
 use Rattle.pipe_text.specs.declared.fault.LimitName.{LimitName}
 use Rattle.pipe_text.specs.declared.fault.LimitName.TheVariants as limit
 use Rattle.pipe_text.specs.declared.words.DeclWord.{DeclWord}
-use Rattle.pipe_text.specs.FileReading.{Bounds}
-use Rattle.pipe_text.specs.Firsts.{SameLimit}
+use Rattle.pipe_text.specs.inside.FileReading.{Bounds}
+use Rattle.pipe_text.specs.FirstFault.{SameLimit}
 use Rattle.pipe_text.proofs.TermReads.{Under, under_refl}
 
 pub record Wider (a b : Bounds) : Type 0 where

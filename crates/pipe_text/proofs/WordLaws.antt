@@ -21,14 +21,11 @@ use Rattle.pipe_text.specs.declared.words.PeriodWord.TheVariants as period
 use Rattle.pipe_text.specs.declared.words.SideWord.{SideWord}
 use Rattle.pipe_text.specs.declared.words.SideWord.TheVariants as side
 use Rattle.pipe_text.specs.Words.{find_word, body_letters, body_word, all_bodies, fun_letters, fun_word, all_funs, kind_letters, kind_word, all_kinds, decl_letters, decl_word, all_decls, value_letters, value_word, all_values, op_letters, op_word, all_ops, period_letters, period_word, all_periods, side_letters, side_word, all_sides, level_letters, level_word, all_levels}
-use Rattle.pipe_text.specs.Readers.{only}
-
--- bytes that are told to be equal are
-pub same_bytes : (xs ys : List ℕ) → bytes_eq xs ys ≡ true → xs ≡ ys
-same_bytes xs ys e = search (rules, e)
+use Rattle.pipe_text.specs.inside.Readers.{only}
+use Rattle.value_core.proofs.Basics.{bytes_same}
 
 pick : {W : Type 0} (letters : W → List ℕ) (n : List ℕ) (v : W) (b : Bool) (o : Option W) (w : W) → bytes_eq n (letters v) ≡ b → cond b (Some v) o ≡ Some w → (n ≡ letters w) ⊎ (o ≡ Some w)
-pick letters n v true o w t e = let same : v ≡ w = cc in inl (same_bytes n (letters v) t ∙ ap letters same)
+pick letters n v true o w t e = let same : v ≡ w = cc in inl (bytes_same n (letters v) t ∙ ap letters same)
 pick letters n v false o w t e = inr e
 
 found_letters : {W : Type 0} (letters : W → List ℕ) (ws : List W) (n : List ℕ) (w : W) → find_word letters ws n ≡ Some w → n ≡ letters w
@@ -40,7 +37,7 @@ if_some true u e = refl
 if_some false u e = absurd cc
 
 pub only_letters : (letters n : List ℕ) (u : Unit {0}) → only letters n ≡ Some u → n ≡ letters
-only_letters letters n u e = same_bytes n letters (if_some (bytes_eq n letters) u e)
+only_letters letters n u e = bytes_same n letters (if_some (bytes_eq n letters) u e)
 
 pub body_word_is : (w : BodyWord) → body_word (body_letters w) ≡ Some w
 unfolding body_word

@@ -30,9 +30,9 @@ use Rattle.term_core.specs.declared.program.Term.{Term}
 use Rattle.pipe_text.specs.declared.declaration.Declaration.{Declaration}
 use Rattle.pipe_text.specs.declared.declaration.Declaration.TheVariants as declare
 use Rattle.pipe_text.specs.declared.declaration.InputValue.{InputValue}
-use Rattle.pipe_text.specs.declared.declaration.Where.{Where}
-use Rattle.pipe_text.specs.declared.declaration.Manner.{Manner}
-use Rattle.pipe_text.specs.declared.declaration.Keeping.{Keeping}
+use Rattle.pipe_text.specs.declared.declaration.Placement.{Placement}
+use Rattle.pipe_text.specs.declared.declaration.Settings.{Settings}
+use Rattle.pipe_text.specs.declared.declaration.Retention.{Retention}
 use Rattle.pipe_text.specs.declared.fault.LimitName.TheVariants as limit
 use Rattle.pipe_text.specs.declared.words.DeclWord.TheVariants as decl
 use Rattle.pipe_text.specs.declared.words.ValueWord.TheVariants as form
@@ -44,7 +44,7 @@ use Rattle.pipe_text.specs.declared.words.SideWord.TheVariants as side
 use Rattle.pipe_text.specs.Words.{decl_letters, value_letters, op_letters, period_letters, side_letters, level_letters}
 use Rattle.pipe_text.specs.Grammar.{Limits, NameIs, TextIs, NumberIs, Texts, Items, list_of, one, Spells}
 
--- a part that may be left out, with the word that it begins with and what stands for it where it is
+-- a part that may be left out, with the word that it begins with and its value if it is left out
 pub data Optional {A : Type 0} (letters : List ℕ) (L : A → List Token → Type 0) (absent : A) : A → List Token → Type 0 where
   is_given : (a : A) (ks : List Token) → L a ks → Optional letters L absent a (Name letters ∷ ks)
   is_absent : Optional letters L absent absent []
@@ -53,34 +53,34 @@ pub data Optional {A : Type 0} (letters : List ℕ) (L : A → List Token → Ty
 abbrev pub SomeText : Limits → Option (List ℕ) → List Token → Type 0
 SomeText lim o ks = (t : List ℕ) × (k : Token) × (o ≡ Some t) × (ks ≡ k ∷ []) × TextIs lim t k
 
--- nothing behind the word of a setting that is on
+-- nothing after the word of a setting that is on
 abbrev pub On : Bool → List Token → Type 0
 On b ks = (b ≡ true) × (ks ≡ [])
 
--- a setting that is on where its word stands
+-- a setting that is on if its word is given
 abbrev pub Flag : List ℕ → Bool → List Token → Type 0
 Flag letters = Optional letters On false
 
--- the value of an input, behind its name
+-- the value of an input, after its name
 pub data ValueIs (lim : Limits) : InputValue → List Token → Type 0 where
   is_text_value : (t : List ℕ) (k : Token) (w : Option (List ℕ)) (ks : List Token) → TextIs lim t k → Optional (codes "watch") (SomeText lim) None w ks
       → ValueIs lim (record { value = value.Words t; watch = w }) (Name (value_letters form.Text) ∷ k ∷ ks)
   is_num_value : (n : ℕ) → ValueIs lim (record { value = value.Num n; watch = None }) (Name (value_letters form.Num) ∷ Number n ∷ [])
   is_list_value : (ts : List (List ℕ)) (ks : List Token) → Items lim ts ks → ValueIs lim (record { value = list_of ts; watch = None }) (Name (value_letters form.List) ∷ Mark 91 ∷ ks)
 
--- where an operation's orders go, and what they cost
-pub data WhereIs (lim : Limits) : Where → List Token → Type 0 where
-  is_where : (p c : List ℕ) (m n : ℕ) (kp kc km kn : Token) → NameIs lim p kp → NameIs lim c kc → NumberIs lim limit.Cost m km → NumberIs lim limit.Cost n kn
-      → WhereIs lim (record { pool = p; client = c; full = m; cached = n }) (Name (codes "pool") ∷ kp ∷ Name (codes "client") ∷ kc ∷ Name (codes "cost") ∷ km ∷ kn ∷ [])
+-- the pool and client of an operation's orders, and what they cost
+pub data PlacementIs (lim : Limits) : Placement → List Token → Type 0 where
+  is_placement : (p c : List ℕ) (m n : ℕ) (kp kc km kn : Token) → NameIs lim p kp → NameIs lim c kc → NumberIs lim limit.Cost m km → NumberIs lim limit.Cost n kn
+      → PlacementIs lim (record { pool = p; client = c; full = m; cached = n }) (Name (codes "pool") ∷ kp ∷ Name (codes "client") ∷ kc ∷ Name (codes "cost") ∷ km ∷ kn ∷ [])
 
 -- a level by its word
 abbrev pub LevelIs : Level → List Token → Type 0
 LevelIs l ks = ks ≡ Name (level_letters l) ∷ []
 
--- the settings of each operation: the hint, `urgent`, the level, which is average where it isn't given
-pub data MannerIs (lim : Limits) : Manner → List Token → Type 0 where
-  is_manner : (h : Option (List ℕ)) (u : Bool) (l : Level) (kh ku kl : List Token) → Optional (codes "hint") (SomeText lim) None h kh → Flag (codes "urgent") u ku → Optional (codes "level") LevelIs level.Average l kl
-      → MannerIs lim (record { hint = h; urgent = u; level = l }) (kh ++ (ku ++ kl))
+-- the settings of each operation: the hint, `urgent`, the level, which is average if it isn't given
+pub data SettingsAre (lim : Limits) : Settings → List Token → Type 0 where
+  is_settings : (h : Option (List ℕ)) (u : Bool) (l : Level) (kh ku kl : List Token) → Optional (codes "hint") (SomeText lim) None h kh → Flag (codes "urgent") u ku → Optional (codes "level") LevelIs level.Average l kl
+      → SettingsAre lim (record { hint = h; urgent = u; level = l }) (kh ++ (ku ++ kl))
 
 -- minutes to the east, negative for west
 abbrev pub offset_of : SideWord → ℕ → ℤ
@@ -91,7 +91,7 @@ offset_of side.West n = neg_ℤ (pos n)
 abbrev pub OffsetIs : Limits → ℤ → List Token → Type 0
 OffsetIs lim o ks = (s : SideWord) × (n : ℕ) × (k : Token) × (o ≡ offset_of s n) × (ks ≡ Name (side_letters s) ∷ k ∷ []) × NumberIs lim limit.Offset n k
 
--- when a result is looked for anew; in a file of version 2 it may have a schedule
+-- when a result expires; in a file of version 2 it may have a schedule
 pub data ExpiryIs (lim : Limits) (version : ℕ) : Expiry → List Token → Type 0 where
   is_never : ExpiryIs lim version Never []
   is_after : (n : ℕ) (k : Token) → NumberIs lim limit.ValidFor n k → ExpiryIs lim version (After n) (Name (codes "valid_for") ∷ k ∷ [])
@@ -101,9 +101,9 @@ pub data ExpiryIs (lim : Limits) (version : ℕ) : Expiry → List Token → Typ
       → ExpiryIs lim version (Monthly d m o) (Name (codes "schedule") ∷ Name (period_letters period.Monthly) ∷ j ∷ k ∷ ks)
 
 -- how long a build keeps its results; an output has no such words
-pub data KeepingIs (lim : Limits) (version : ℕ) : OpWord → Keeping → List Token → Type 0 where
-  is_build_keeping : (e : Expiry) (l : Bool) (ke kl : List Token) → ExpiryIs lim version e ke → Flag (codes "latched") l kl → KeepingIs lim version op.Build (record { expiry = e; latched = l }) (ke ++ kl)
-  is_output_keeping : KeepingIs lim version op.Output (record { expiry = Never; latched = false }) []
+pub data RetentionIs (lim : Limits) (version : ℕ) : OpWord → Retention → List Token → Type 0 where
+  is_build_retention : (e : Expiry) (l : Bool) (ke kl : List Token) → ExpiryIs lim version e ke → Flag (codes "latched") l kl → RetentionIs lim version op.Build (record { expiry = e; latched = l }) (ke ++ kl)
+  is_output_retention : RetentionIs lim version op.Output (record { expiry = Never; latched = false }) []
 
 -- the words of a command
 pub data RunIs (lim : Limits) : List (List ℕ) → List Token → Type 0 where
@@ -115,7 +115,7 @@ is_output_word op.Build = false
 is_output_word op.Output = true
 
 -- the operation of these parts
-abbrev pub op_of : List ℕ → OpWord → Where → Manner → Keeping → Bool → List (List ℕ) → OpDecl
+abbrev pub op_of : List ℕ → OpWord → Placement → Settings → Retention → Bool → List (List ℕ) → OpDecl
 op_of n w p m k c ws = record {
   name = n;
   output = is_output_word w;
@@ -142,8 +142,8 @@ pub data Declares (lim : Limits) (depth version : ℕ) : Declaration → List To
       → Declares lim depth version (declare.Client (record { name = n; pool = p; rate = r })) (Name (decl_letters decl.Client) ∷ k ∷ l ∷ j ∷ [])
   is_worker_decl : (n p : List ℕ) (c : ℕ) (k l j : Token) → NameIs lim n k → NameIs lim p l → NumberIs lim limit.Capacity c j
       → Declares lim depth version (declare.Worker (record { name = n; pool = p; capacity = c })) (Name (decl_letters decl.Worker) ∷ k ∷ l ∷ j ∷ [])
-  is_op_decl : (n : List ℕ) (w : OpWord) (p : Where) (m : Manner) (e : Keeping) (c : Bool) (ws : List (List ℕ)) (k : Token) (kp km ke kc kr : List Token)
-      → NameIs lim n k → WhereIs lim p kp → MannerIs lim m km → KeepingIs lim version w e ke → Flag (codes "no_cancel") c kc → RunIs lim ws kr
+  is_op_decl : (n : List ℕ) (w : OpWord) (p : Placement) (m : Settings) (e : Retention) (c : Bool) (ws : List (List ℕ)) (k : Token) (kp km ke kc kr : List Token)
+      → NameIs lim n k → PlacementIs lim p kp → SettingsAre lim m km → RetentionIs lim version w e ke → Flag (codes "no_cancel") c kc → RunIs lim ws kr
       → Declares lim depth version (declare.Op (op_of n w p m e c ws)) (Name (decl_letters decl.Op) ∷ k ∷ Name (op_letters w) ∷ (kp ++ (km ++ (ke ++ (kc ++ kr)))))
   is_node_decl : (n : List ℕ) (t : Term) (m : ℕ) (k : Token) (ks : List Token) → NameIs lim n k → Spells lim depth m (one t) ks
       → Declares lim depth version (declare.Node (record { name = n; term = t }) m) (Name (decl_letters decl.Node) ∷ k ∷ ks)

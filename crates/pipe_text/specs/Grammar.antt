@@ -28,19 +28,19 @@ use Rattle.pipe_text.specs.declared.words.BodyWord.TheVariants as word
 use Rattle.pipe_text.specs.LimitTable.{number_of, least_of}
 use Rattle.pipe_text.specs.Words.{body_letters, fun_letters, kind_letters}
 
--- The limits on single tokens and on lists of them: how many items and words may stand behind the first, and which limits on a name, a text or a number are lifted.
+-- The limits on single tokens and on lists of them: how many items and words may follow the first, and which limits on a name, a text or a number are lifted.
 pub record Limits : Type 0 where
   pub more_items : ℕ
   pub more_words : ℕ
   pub lifted : LimitName → Bool
 
--- The token is this name. Of one that is too long nothing is known; where that limit is lifted it stands for the empty name.
+-- The token is this name. Of one that is too long nothing is known; if that limit is lifted it counts as the empty name.
 abbrev pub NameIs : Limits → List ℕ → Token → Type 0
 NameIs lim n (Name m) = n ≡ m
 NameIs lim n LongName = (lim.lifted limit.Name ≡ true) × (n ≡ [])
 NameIs lim n k = ⊥
 
--- The token is a string with this text. One that is too long stands for the empty text, where that limit is lifted.
+-- The token is a string with this text. One that is too long counts as the empty text, if that limit is lifted.
 abbrev pub TextIs : Limits → List ℕ → Token → Type 0
 TextIs lim t (Words u) = t ≡ u
 TextIs lim t LongText = (lim.lifted limit.Text ≡ true) × (t ≡ [])
@@ -55,16 +55,16 @@ abbrev pub NumberIs : Limits → LimitName → ℕ → Token → Type 0
 NumberIs lim what n (Number m) = (n ≡ m) × (is_within lim what n ≡ true)
 NumberIs lim what n k = ⊥
 
--- strings with these texts, each behind the tokens `before`, and then the tokens `behind`
+-- strings with these texts, each after the tokens `before`, and then the tokens `after`
 abbrev pub Texts : List Token → List Token → Limits → List (List ℕ) → List Token → Type 0
-Texts before behind lim [] ks = ks ≡ behind
-Texts before behind lim (t ∷ ts) ks = (k : Token) × (more : List Token) × (ks ≡ before ++ k ∷ more) × TextIs lim t k × Texts before behind lim ts more
+Texts before following lim [] ks = ks ≡ following
+Texts before following lim (t ∷ ts) ks = (k : Token) × (more : List Token) × (ks ≡ before ++ k ∷ more) × TextIs lim t k × Texts before following lim ts more
 
--- what stands behind the first text of a list: texts behind commas, and the bracket that closes
+-- the rest after the first text of a list: texts after commas, and the bracket that closes
 abbrev pub MoreItems : Limits → List (List ℕ) → List Token → Type 0
 MoreItems = Texts (Mark 44 ∷ []) (Mark 93 ∷ [])
 
--- what stands behind the opening bracket of a list
+-- a list after its opening bracket
 abbrev pub Items : Limits → List (List ℕ) → List Token → Type 0
 Items lim [] ks = ks ≡ Mark 93 ∷ []
 Items lim (t ∷ ts) ks = (k : Token) × (more : List Token) × (ks ≡ k ∷ more) × TextIs lim t k × (length ts ≤ lim.more_items) × MoreItems lim ts more
@@ -89,7 +89,7 @@ pub data What : Type 0 where
   one : Term → What
   many : List Term → What
 
--- Which tokens a term is spelled by, or terms one after the other, with at most so many brackets open where it is deepest and just so many terms in all.
+-- Which tokens a term is spelled by, or terms one after the other, with at most so many brackets open inside one another and just so many terms in all.
 pub data Spells (lim : Limits) : ℕ → ℕ → What → List Token → Type 0 where
   is_return : (d : ℕ) (v : Value) (ks : List Token) → IsLiteral lim v ks → Spells lim (suc d) 1 (one (term.Return v)) (form word.Return ks)
   is_fail : (d : ℕ) (f : FailKind) (t : List ℕ) (k : Token) → TextIs lim t k → Spells lim (suc d) 1 (one (term.Fail f t)) (form word.Fail (Name (kind_letters f) ∷ k ∷ []))

@@ -2,10 +2,7 @@ pub mod Words
 pub mod LimitTable
 pub mod Grammar
 pub mod FileGrammar
-pub mod Standing
-pub mod Readers
-pub mod TermReading
-pub mod FileReading
-pub mod Looking
-pub mod Firsts
+pub mod Files
+pub mod FirstFault
 pub mod Printing
+pub mod inside

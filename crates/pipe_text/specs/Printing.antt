@@ -23,7 +23,7 @@ use Rattle.pipe_text.specs.declared.words.BodyWord.TheVariants as word
 use Rattle.pipe_text.specs.Words.{level_letters, fun_letters, kind_letters}
 use Rattle.pipe_text.specs.Grammar.{form}
 
--- the bytes of a token; one that is too long has none, and stands in no line that is printed
+-- the bytes of a token; one that is too long has none, and is in no line that is printed
 abbrev pub token_text : Token → List ℕ
 token_text (Name n) = n
 token_text (Number n) = decimal n
@@ -32,17 +32,17 @@ token_text (Mark b) = b ∷ []
 token_text LongName = []
 token_text LongText = []
 
--- whether no space stands behind a token: `(` and `[`
+-- whether no space follows a token: `(` and `[`
 abbrev pub opens : Token → Bool
 opens (Mark b) = b == 40 || b == 91
 opens k = false
 
--- whether no space stands before a token: `)`, `]` and `,`
+-- whether no space precedes a token: `)`, `]` and `,`
 abbrev pub closes : Token → Bool
 closes (Mark b) = b == 41 || (b == 93 || b == 44)
 closes k = false
 
--- what stands before a token, by whether one before it wants no space
+-- the space before a token, by whether the token before it wants none
 abbrev pub space_before : Bool → Token → List ℕ
 space_before tight k = if closes k || tight then [] else codes " "
 
@@ -64,7 +64,7 @@ item_layer v = []
 abbrev pub item_tokens : Value → List Token
 item_tokens v = item_layer (out-Value v)
 
--- items behind commas, and the bracket that closes
+-- items after commas, and the bracket that closes
 abbrev pub more_items : List Value → List Token
 more_items [] = Mark 93 ∷ []
 more_items (v ∷ vs) = Mark 44 ∷ (item_tokens v ++ more_items vs)
@@ -117,7 +117,7 @@ value_layer_word (Value-F.Num n) = Name (codes "num") ∷ []
 value_layer_word (Value-F.List vs) = Name (codes "list") ∷ []
 value_layer_word v = []
 
--- a text behind its word, where there is one
+-- a text after its word, if there is one
 abbrev pub text_tokens : List ℕ → Option (List ℕ) → List Token
 text_tokens letters None = []
 text_tokens letters (Some t) = Name letters ∷ Words t ∷ []
@@ -131,7 +131,7 @@ abbrev pub level_tokens : Level → List Token
 level_tokens level.Average = []
 level_tokens l = Name (codes "level") ∷ Name (level_letters l) ∷ []
 
--- minutes to the east, or to the west where they are negative
+-- minutes to the east, or to the west if they are negative
 abbrev pub offset_tokens : ℤ → List Token
 offset_tokens (pos n) = Name (codes "east") ∷ Number n ∷ []
 offset_tokens (negsuc n) = Name (codes "west") ∷ Number (suc n) ∷ []
@@ -163,17 +163,17 @@ worker_tokens d = Name (codes "worker") ∷ Name d.name ∷ Name d.pool ∷ Numb
 abbrev pub kind_tokens : OpDecl → List Token
 kind_tokens d = Name (codes "op") ∷ Name d.name ∷ Name (if d.output then codes "output" else codes "build") ∷ []
 
--- where an operation's orders go, and what they cost
-abbrev pub where_tokens : OpDecl → List Token
-where_tokens d = Name (codes "pool") ∷ Name d.pool ∷ Name (codes "client") ∷ Name d.client ∷ Name (codes "cost") ∷ Number d.full ∷ Number d.cached ∷ []
+-- the pool and client of an operation's orders, and what they cost
+abbrev pub placement_tokens : OpDecl → List Token
+placement_tokens d = Name (codes "pool") ∷ Name d.pool ∷ Name (codes "client") ∷ Name d.client ∷ Name (codes "cost") ∷ Number d.full ∷ Number d.cached ∷ []
 
 -- the settings of each operation
-abbrev pub manner_tokens : OpDecl → List Token
-manner_tokens d = text_tokens (codes "hint") d.hint ++ (flag_tokens (codes "urgent") d.urgent ++ level_tokens d.level)
+abbrev pub settings_tokens : OpDecl → List Token
+settings_tokens d = text_tokens (codes "hint") d.hint ++ (flag_tokens (codes "urgent") d.urgent ++ level_tokens d.level)
 
--- how long results are kept, and whether a job goes on that nothing refers to
-abbrev pub keeping_tokens : OpDecl → List Token
-keeping_tokens d = expiry_tokens d.expiry ++ (flag_tokens (codes "latched") d.latched ++ flag_tokens (codes "no_cancel") d.no_cancel)
+-- how long results are kept, and whether a job continues that nothing refers to
+abbrev pub retention_tokens : OpDecl → List Token
+retention_tokens d = expiry_tokens d.expiry ++ (flag_tokens (codes "latched") d.latched ++ flag_tokens (codes "no_cancel") d.no_cancel)
 
 -- the words of a command
 abbrev pub run_tokens : List (List ℕ) → List Token
@@ -181,7 +181,7 @@ run_tokens ts = Name (codes "run") ∷ map Words ts
 
 -- an operation's line
 abbrev pub op_tokens : OpDecl → List Token
-op_tokens d = kind_tokens d ++ (where_tokens d ++ (manner_tokens d ++ (keeping_tokens d ++ run_tokens d.words)))
+op_tokens d = kind_tokens d ++ (placement_tokens d ++ (settings_tokens d ++ (retention_tokens d ++ run_tokens d.words)))
 
 -- a node's line
 abbrev pub node_tokens : NodeDecl → List Token
@@ -197,7 +197,7 @@ lines_of p =
 unfoldable pub pipeline_text : Program → List ℕ
 pipeline_text p = flat_map line_text (lines_of p)
 
--- what is printed with one token more, and whether that wants no space behind it
+-- what is printed with one token more, and whether that wants no space after it
 unfoldable pub with_token : Token → List ℕ × Bool → List ℕ × Bool
 with_token k s = (s.0 ++ (space_before s.1 k ++ token_text k), opens k)
 

@@ -29,7 +29,7 @@ decl_letters decl.Worker = codes "worker"
 decl_letters decl.Op = codes "op"
 decl_letters decl.Node = codes "node"
 
--- what stands before the value of an input
+-- the words before the value of an input
 abbrev pub value_letters : ValueWord → List ℕ
 value_letters form.Text = codes "text"
 value_letters form.Num = codes "num"
@@ -40,7 +40,7 @@ abbrev pub op_letters : OpWord → List ℕ
 op_letters op.Build = codes "build"
 op_letters op.Output = codes "output"
 
--- how often a schedule comes
+-- how often a schedule recurs
 abbrev pub period_letters : PeriodWord → List ℕ
 period_letters period.Daily = codes "daily"
 period_letters period.Monthly = codes "monthly"
@@ -58,7 +58,7 @@ level_letters level.Average = codes "average"
 level_letters level.AboveAverage = codes "above_average"
 level_letters level.Dangerous = codes "dangerous"
 
--- what a term begins with, behind its bracket
+-- what a term begins with, after its bracket
 abbrev pub body_letters : BodyWord → List ℕ
 body_letters word.Return = codes "return"
 body_letters word.Fail = codes "fail"
@@ -96,7 +96,7 @@ fun_letters fun.Second = codes "second"
 fun_letters fun.Describe = codes "describe"
 fun_letters fun.Must = codes "must"
 
--- the tokens_in that a failure may be of
+-- the kinds that a failure may be of
 abbrev pub kind_letters : FailKind → List ℕ
 kind_letters kind.Text = codes "text"
 kind_letters kind.Num = codes "num"
@@ -112,7 +112,7 @@ find_word letters (w ∷ ws) n = if bytes_eq n (letters w) then Some w else find
 abbrev pub all_decls : List DeclWord
 all_decls = decl.Input ∷ decl.Pool ∷ decl.Client ∷ decl.Worker ∷ decl.Op ∷ decl.Node ∷ []
 
--- all that stand before the value of an input
+-- all words before the value of an input
 abbrev pub all_values : List ValueWord
 all_values = form.Text ∷ form.Num ∷ form.List ∷ []
 
@@ -140,7 +140,7 @@ all_bodies = word.Return ∷ word.Fail ∷ word.Input ∷ word.Node ∷ word.Var
 abbrev pub all_funs : List Fun
 all_funs = fun.Trim ∷ fun.Lines ∷ fun.Words ∷ fun.Join ∷ fun.Concat ∷ fun.Length ∷ fun.Count ∷ fun.Number ∷ fun.Show ∷ fun.Add ∷ fun.Equal ∷ fun.AtMost ∷ fun.First ∷ fun.Second ∷ fun.Describe ∷ fun.Must ∷ []
 
--- all tokens_in of a failure
+-- all kinds of a failure
 abbrev pub all_kinds : List FailKind
 all_kinds = kind.Text ∷ kind.Num ∷ kind.Unit ∷ kind.List ∷ []
 
@@ -148,7 +148,7 @@ all_kinds = kind.Text ∷ kind.Num ∷ kind.Unit ∷ kind.List ∷ []
 unfoldable pub decl_word : List ℕ → Option DeclWord
 decl_word = find_word decl_letters all_decls
 
--- what stands before an input's value that has these letters
+-- the word before an input's value that has these letters
 unfoldable pub value_word : List ℕ → Option ValueWord
 value_word = find_word value_letters all_values
 

@@ -1,12 +1,12 @@
 //! Declarations, and the parts that they are read in.
 ghost use Rattle.std.specs.Prelude.{◌≡◌};
-ghost use Rattle.pipe_text.specs.Looking.{word_of, name_of};
-ghost use Rattle.pipe_text.specs.Standing.{terms_of};
+ghost use Rattle.pipe_text.specs.inside.Known.{word_of, name_of};
+ghost use Rattle.pipe_text.specs.Files.{terms_of};
 
-use crate::words::DeclWord;
+use crate::words::{DeclWord, OpWord};
 use op_keys::{ClientDecl, Expiry, Level, OpDecl, PoolDecl, WorkerDecl};
 use term_core::{InputDecl, NodeDecl};
-use value_core::{Text, Value};
+use value_core::{ListOf, Text, Value};
 
 /// A declaration of a file.
 #[derive(Drop)]
@@ -67,9 +67,9 @@ pub struct InputValue {
     pub watch: Option<Text>,
 }
 
-/// Where an operation's orders go, and what they cost.
+/// The pool and client of an operation's orders, and what they cost.
 #[derive(Drop)]
-pub struct Where {
+pub struct Placement {
     pub pool: Text,
     pub client: Text,
     pub full: u64,
@@ -78,7 +78,7 @@ pub struct Where {
 
 /// The settings of each operation.
 #[derive(Drop)]
-pub struct Manner {
+pub struct Settings {
     pub hint: Option<Text>,
     pub urgent: bool,
     pub level: Level,
@@ -86,7 +86,24 @@ pub struct Manner {
 
 /// How long a build keeps its results.
 #[derive(Clone, Copy, Debug, PartialEq, Eq)]
-pub struct Keeping {
+pub struct Retention {
     pub expiry: Expiry,
     pub latched: bool,
+}
+
+/// What an operation begins with.
+#[derive(Drop)]
+pub(crate) struct OpHead {
+    pub(crate) name: Text,
+    pub(crate) kind: OpWord,
+}
+
+/// What an operation has after its kind.
+#[derive(Drop)]
+pub(crate) struct OpParts {
+    pub(crate) placement: Placement,
+    pub(crate) settings: Settings,
+    pub(crate) retention: Retention,
+    pub(crate) no_cancel: bool,
+    pub(crate) words: ListOf<Text>,
 }

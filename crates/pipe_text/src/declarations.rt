@@ -1,24 +1,24 @@
 //! Declarations, up to the end of the file.
 ghost use Rattle.std.specs.Prelude.{◌≡◌, ◌+◌, ◌-◌, ◌≤◌, ◌||◌, List, [], ℕ, IfOk, OnOk};
 ghost use Rattle.pipe_text.specs.declared.words.DeclWord.{DeclWord};
-ghost use Rattle.pipe_text.specs.Readers.{Gives};
-ghost use Rattle.pipe_text.specs.Standing.{limit_of, terms_of, program_of};
-ghost use Rattle.pipe_text.specs.FileReading.{file_bounds, declared_at, paired_at, version_at, rest_at, decl_at, all_at, made, program_at};
-ghost use Rattle.pipe_text.specs.Looking.{count_in, named_in, is_named, paired_in, seen_of, word_of, name_of, with_declaration, Knows};
+ghost use Rattle.pipe_text.specs.inside.Readers.{Returns};
+ghost use Rattle.pipe_text.specs.Files.{limit_of, terms_of, program_of};
+ghost use Rattle.pipe_text.specs.inside.FileReading.{file_bounds, declared_at, paired_at, version_at, rest_at, decl_at, all_at, made, program_at};
+ghost use Rattle.pipe_text.specs.inside.Known.{count_in, named_in, is_named, paired_in, seen_of, word_of, name_of, with_declaration, Knows};
 
-use crate::declaration::Declaration;
+use crate::declaration::{Declaration, OpHead};
 use crate::details::{take_op, take_value};
-use crate::fault::{Fault, LimitName, Unread};
+use crate::fault::{Fault, LimitName, TakeError};
 use crate::names::Names;
 use crate::taking::{
     limit_at, syntax_at, take_keyword, take_name, take_number, take_token, take_word,
 };
-use crate::terms::take_term;
+use crate::terms::{Room, take_term};
 use crate::words::{DeclWord, OpWord};
 use op_keys::{ClientDecl, PoolDecl, WorkerDecl};
 use std::alloc::{AllocError, Global};
 use term_core::{InputDecl, NodeDecl, Program};
-use value_core::{ListOf, TokenAt, Stop, Text, Token};
+use value_core::{ListOf, Stop, Text, Token, TokenAt};
 
 /// What was declared so far, with the names, to look them up, and the number of terms.
 #[derive(Drop)]
@@ -89,7 +89,7 @@ impl Declarations {
     }
 }
 
-/// Adds a declaration to a program, behind the others of its kind.
+/// Adds a declaration to a program, after the others of its kind.
 fn put(program: &mut Program, decl: Declaration) -> Result<(), AllocError>
     ensures { OnOk result (program.new ≡ with_declaration program.old decl) }
 {
@@ -115,22 +115,22 @@ fn note(alloc: Global, names: &mut Names, decl: &Declaration) -> Result<(), Allo
 fn take_declared<'a>(
     alloc: Global,
     word: DeclWord,
-    it: &Declarations,
+    so_far: &Declarations,
     stop: Stop,
     tokens: &'a [TokenAt],
-) -> Result<(Text, &'a [TokenAt]), Unread>
-    ensures { Gives (λ x. (x.0, x.1.now)) result (declared_at file_bounds word (seen_of it.now) stop tokens.now) }
+) -> Result<(Text, &'a [TokenAt]), TakeError>
+    ensures { Returns (λ x. (x.0, x.1.now)) result (declared_at file_bounds word (seen_of so_far.now) stop tokens.now) }
 {
     let (token, rest) = take_token(stop, tokens)?;
     let what = limit_of(word);
-    let is_full = it.count(word) as u64 >= what.number();
+    let is_full = so_far.count(word) as u64 >= what.number();
     match &token.token {
         Token::Name(name) => {
             if is_full {
                 Err(limit_at(what, token.offset))
-            } else if it.names.has(word, name) {
+            } else if so_far.names.has(word, name) {
                 let name = name.copy(alloc)?;
-                Err(Unread::At(Fault::Duplicate(name, token.offset)))
+                Err(TakeError::At(Fault::Duplicate(name, token.offset)))
             } else {
                 Ok((name.copy(alloc)?, rest))
             }
@@ -149,19 +149,19 @@ fn take_declared<'a>(
 /// The pool of a client.
 fn take_paired<'a>(
     alloc: Global,
-    it: &Declarations,
+    so_far: &Declarations,
     name: &Text,
     stop: Stop,
     tokens: &'a [TokenAt],
-) -> Result<(Text, &'a [TokenAt]), Unread>
-    ensures { Gives (λ x. (x.0, x.1.now)) result (paired_at file_bounds (seen_of it.now) name.now stop tokens.now) }
+) -> Result<(Text, &'a [TokenAt]), TakeError>
+    ensures { Returns (λ x. (x.0, x.1.now)) result (paired_at file_bounds (seen_of so_far.now) name.now stop tokens.now) }
 {
     let (token, rest) = take_token(stop, tokens)?;
     match &token.token {
         Token::Name(pool) => {
-            if it.has_client(name, pool) {
+            if so_far.has_client(name, pool) {
                 let client = name.copy(alloc)?;
-                Err(Unread::At(Fault::Duplicate(client, token.offset)))
+                Err(TakeError::At(Fault::Duplicate(client, token.offset)))
             } else {
                 Ok((pool.copy(alloc)?, rest))
             }
@@ -171,19 +171,19 @@ fn take_paired<'a>(
     }
 }
 
-/// A declaration behind its word.
-#[tactic(auto, unfolding(crate::specs::FileReading::rest_at))]
+/// A declaration after its word.
+#[tactic(auto, unfolding(crate::specs::inside::FileReading::rest_at))]
 fn take_rest<'a>(
     alloc: Global,
     word: DeclWord,
-    it: &Declarations,
+    so_far: &Declarations,
     stop: Stop,
     tokens: &'a [TokenAt],
-) -> Result<(Declaration, &'a [TokenAt]), Unread>
-    ensures gives { Gives (λ x. (x.0, x.1.now)) result (rest_at file_bounds (seen_of it.now) word stop tokens.now) }
-    ensures terms { IfOk result (λ x. terms_of x.0 ≤ 4096 - it.now.terms) }
+) -> Result<(Declaration, &'a [TokenAt]), TakeError>
+    ensures gives { Returns (λ x. (x.0, x.1.now)) result (rest_at file_bounds (seen_of so_far.now) word stop tokens.now) }
+    ensures terms { IfOk result (λ x. terms_of x.0 ≤ 4096 - so_far.now.terms) }
 {
-    let (name, rest) = take_declared(alloc, word, it, stop, tokens)?;
+    let (name, rest) = take_declared(alloc, word, so_far, stop, tokens)?;
     match word {
         DeclWord::Input => {
             let (input, rest) = take_value(alloc, stop, rest)?;
@@ -197,7 +197,7 @@ fn take_rest<'a>(
             Ok((Declaration::Pool(PoolDecl { name, hold }), rest))
         }
         DeclWord::Client => {
-            let (pool, rest) = take_paired(alloc, it, &name, stop, rest)?;
+            let (pool, rest) = take_paired(alloc, so_far, &name, stop, rest)?;
             let (rate, rest) = take_number(LimitName::Rate, stop, rest)?;
             Ok((Declaration::Client(ClientDecl { name, pool, rate }), rest))
         }
@@ -213,60 +213,67 @@ fn take_rest<'a>(
         }
         DeclWord::Op => {
             let (kind, rest) = take_word::<OpWord>(stop, rest)?;
-            let (op, rest) = take_op(alloc, it.program.version, name, kind, stop, rest)?;
+            let head = OpHead { name, kind };
+            let (op, rest) = take_op(alloc, so_far.program.version, head, stop, rest)?;
             Ok((Declaration::Op(op), rest))
         }
         DeclWord::Node => {
-            let left = (LimitName::Terms.number() as u32).saturating_sub(it.terms);
+            let left = (LimitName::Terms.number() as u32).saturating_sub(so_far.terms);
             let depth = LimitName::Depth.number() as u8;
-            let (term, used, rest) = take_term(alloc, depth, left, stop, rest)?;
+            let room = Room { depth, left };
+            let (term, used, rest) = take_term(alloc, room, stop, rest)?;
             Ok((Declaration::Node(NodeDecl { name, term }, used), rest))
         }
     }
 }
 
-#[tactic(auto, unfolding(crate::specs::FileReading::decl_at))]
+#[tactic(auto, unfolding(crate::specs::inside::FileReading::decl_at))]
 fn take_decl<'a>(
     alloc: Global,
-    it: &Declarations,
+    so_far: &Declarations,
     stop: Stop,
     tokens: &'a [TokenAt],
-) -> Result<(Declaration, &'a [TokenAt]), Unread>
-    ensures gives { Gives (λ x. (x.0, x.1.now)) result (decl_at file_bounds (seen_of it.now) stop tokens.now) }
-    ensures terms { IfOk result (λ x. terms_of x.0 ≤ 4096 - it.now.terms) }
+) -> Result<(Declaration, &'a [TokenAt]), TakeError>
+    ensures gives { Returns (λ x. (x.0, x.1.now)) result (decl_at file_bounds (seen_of so_far.now) stop tokens.now) }
+    ensures terms { IfOk result (λ x. terms_of x.0 ≤ 4096 - so_far.now.terms) }
 {
     let (word, rest) = take_word::<DeclWord>(stop, tokens)?;
-    take_rest(alloc, word, it, stop, rest)
+    take_rest(alloc, word, so_far, stop, rest)
 }
 
 /// All declarations up to the end of the file.
-fn take_all(alloc: Global, version: u32, stop: Stop, tokens: &[TokenAt]) -> Result<Program, Unread>
-    ensures { Gives (λ p. p) result (made version (all_at file_bounds version [] stop tokens.now)) }
+fn take_all(
+    alloc: Global,
+    version: u32,
+    stop: Stop,
+    tokens: &[TokenAt],
+) -> Result<Program, TakeError>
+    ensures { Returns (λ p. p) result (made version (all_at file_bounds version [] stop tokens.now)) }
 {
-    let mut it = Declarations::new(alloc, version);
+    let mut so_far = Declarations::new(alloc, version);
     let mut tokens = tokens;
     'declarations: while !tokens.is_empty() {
-        match take_decl(alloc, &it, stop, tokens) {
+        match take_decl(alloc, &so_far, stop, tokens) {
             Err(fault) => return Err(fault),
             Ok((decl, rest)) => {
-                note(alloc, &mut it.names, &decl)?;
-                it.terms += decl.terms();
-                put(&mut it.program, decl)?;
+                note(alloc, &mut so_far.names, &decl)?;
+                so_far.terms += decl.terms();
+                put(&mut so_far.program, decl)?;
                 tokens = rest;
             }
         }
     }
     match stop {
-        Stop::Lex(offset) => Err(Unread::At(Fault::Lex(offset))),
+        Stop::Lex(offset) => Err(TakeError::At(Fault::Lex(offset))),
         Stop::End(_) => {
-            let Declarations { program, .. } = it;
+            let Declarations { program, .. } = so_far;
             Ok(program)
         }
     }
 }
 
-fn take_version(stop: Stop, tokens: &[TokenAt]) -> Result<(u32, &[TokenAt]), Unread>
-    ensures { Gives (λ x. (x.0, x.1.now)) result (version_at stop tokens.now) }
+fn take_version(stop: Stop, tokens: &[TokenAt]) -> Result<(u32, &[TokenAt]), TakeError>
+    ensures { Returns (λ x. (x.0, x.1.now)) result (version_at stop tokens.now) }
 {
     let (token, rest) = take_token(stop, tokens)?;
     match &token.token {
@@ -277,9 +284,9 @@ fn take_version(stop: Stop, tokens: &[TokenAt]) -> Result<(u32, &[TokenAt]), Unr
 }
 
 /// The tokens of a whole file.
-#[tactic(auto, unfolding(crate::specs::FileReading::program_at))]
-pub(crate) fn take_file(alloc: Global, stop: Stop, tokens: &[TokenAt]) -> Result<Program, Unread>
-    ensures { Gives (λ p. p) result (program_at file_bounds stop tokens.now) }
+#[tactic(auto, unfolding(crate::specs::inside::FileReading::program_at))]
+pub(crate) fn take_file(alloc: Global, stop: Stop, tokens: &[TokenAt]) -> Result<Program, TakeError>
+    ensures { Returns (λ p. p) result (program_at file_bounds stop tokens.now) }
 {
     let rest = take_keyword("pipeline", stop, tokens)?;
     let (version, rest) = take_version(stop, rest)?;

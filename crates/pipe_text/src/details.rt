@@ -1,12 +1,12 @@
 //! The parts of declarations.
 ghost use Rattle.std.specs.Prelude.{◌≡◌, ◌≤◌, IfOk};
-ghost use Rattle.pipe_text.specs.Readers.{Gives};
+ghost use Rattle.pipe_text.specs.inside.Readers.{Returns};
 ghost use Rattle.pipe_text.specs.FileGrammar.{offset_of, op_of};
-ghost use Rattle.pipe_text.specs.Standing.{file_limits};
-ghost use Rattle.pipe_text.specs.FileReading.{optional_text_at, flag_at, value_behind, value_at, where_at, level_at, manner_at, offset_at, period_behind, schedule_at, expiry_at, keeping_at, run_at, op_at};
+ghost use Rattle.pipe_text.specs.Files.{file_limits};
+ghost use Rattle.pipe_text.specs.inside.FileReading.{optional_text_at, flag_at, value_after, value_at, placement_at, level_at, settings_at, offset_at, period_after, schedule_at, expiry_at, retention_at, run_at, op_at};
 
-use crate::declaration::{InputValue, Keeping, Manner, Where};
-use crate::fault::{LimitName, Unread};
+use crate::declaration::{InputValue, OpHead, OpParts, Placement, Retention, Settings};
+use crate::fault::{LimitName, TakeError};
 use crate::literals::{take_items, take_more_words};
 use crate::taking::{
     is_at_keyword, take_any_number, take_keyword, take_mark, take_name, take_number, take_text,
@@ -15,16 +15,16 @@ use crate::taking::{
 use crate::words::{OpWord, PeriodWord, SideWord, ValueWord};
 use op_keys::{Expiry, Level, OpDecl};
 use std::alloc::Global;
-use value_core::{ListOf, TokenAt, Stop, Text, Value};
+use value_core::{ListOf, Stop, Text, TokenAt, Value};
 
-/// The string behind a word that may be left out.
+/// The string after a word that may be left out.
 fn take_optional_text<'a>(
     alloc: Global,
     letters: &str,
     stop: Stop,
     tokens: &'a [TokenAt],
-) -> Result<(Option<Text>, &'a [TokenAt]), Unread>
-    ensures { Gives (λ x. (x.0, x.1.now)) result (optional_text_at file_limits letters.now stop tokens.now) }
+) -> Result<(Option<Text>, &'a [TokenAt]), TakeError>
+    ensures { Returns (λ x. (x.0, x.1.now)) result (optional_text_at file_limits letters.now stop tokens.now) }
 {
     if !is_at_keyword(letters, tokens) {
         return Ok((None, tokens));
@@ -34,13 +34,13 @@ fn take_optional_text<'a>(
     Ok((Some(text), rest))
 }
 
-/// Whether a word stands there, which is taken.
+/// Whether a word is next, which is taken.
 fn take_flag<'a>(
     letters: &str,
     stop: Stop,
     tokens: &'a [TokenAt],
-) -> Result<(bool, &'a [TokenAt]), Unread>
-    ensures { Gives (λ x. (x.0, x.1.now)) result (flag_at letters.now stop tokens.now) }
+) -> Result<(bool, &'a [TokenAt]), TakeError>
+    ensures { Returns (λ x. (x.0, x.1.now)) result (flag_at letters.now stop tokens.now) }
 {
     if !is_at_keyword(letters, tokens) {
         return Ok((false, tokens));
@@ -49,13 +49,13 @@ fn take_flag<'a>(
     Ok((true, rest))
 }
 
-fn take_value_behind(
+fn take_value_after(
     alloc: Global,
     word: ValueWord,
     stop: Stop,
     tokens: &[TokenAt],
-) -> Result<(InputValue, &[TokenAt]), Unread>
-    ensures { Gives (λ x. (x.0, x.1.now)) result (value_behind file_limits word stop tokens.now) }
+) -> Result<(InputValue, &[TokenAt]), TakeError>
+    ensures { Returns (λ x. (x.0, x.1.now)) result (value_after file_limits word stop tokens.now) }
 {
     match word {
         ValueWord::Text => {
@@ -77,22 +77,26 @@ fn take_value_behind(
     }
 }
 
-/// The value of an input, behind its name.
-#[tactic(auto, unfolding(crate::specs::FileReading::value_at))]
+/// The value of an input, after its name.
+#[tactic(auto, unfolding(crate::specs::inside::FileReading::value_at))]
 pub(crate) fn take_value(
     alloc: Global,
     stop: Stop,
     tokens: &[TokenAt],
-) -> Result<(InputValue, &[TokenAt]), Unread>
-    ensures { Gives (λ x. (x.0, x.1.now)) result (value_at file_limits stop tokens.now) }
+) -> Result<(InputValue, &[TokenAt]), TakeError>
+    ensures { Returns (λ x. (x.0, x.1.now)) result (value_at file_limits stop tokens.now) }
 {
     let (word, rest) = take_word::<ValueWord>(stop, tokens)?;
-    take_value_behind(alloc, word, stop, rest)
+    take_value_after(alloc, word, stop, rest)
 }
 
-#[tactic(auto, unfolding(crate::specs::FileReading::where_at))]
-fn take_where(alloc: Global, stop: Stop, tokens: &[TokenAt]) -> Result<(Where, &[TokenAt]), Unread>
-    ensures { Gives (λ x. (x.0, x.1.now)) result (where_at file_limits stop tokens.now) }
+#[tactic(auto, unfolding(crate::specs::inside::FileReading::placement_at))]
+fn take_placement(
+    alloc: Global,
+    stop: Stop,
+    tokens: &[TokenAt],
+) -> Result<(Placement, &[TokenAt]), TakeError>
+    ensures { Returns (λ x. (x.0, x.1.now)) result (placement_at file_limits stop tokens.now) }
 {
     let rest = take_keyword("pool", stop, tokens)?;
     let (pool, rest) = take_name(alloc, stop, rest)?;
@@ -101,7 +105,7 @@ fn take_where(alloc: Global, stop: Stop, tokens: &[TokenAt]) -> Result<(Where, &
     let rest = take_keyword("cost", stop, rest)?;
     let (full, rest) = take_number(LimitName::Cost, stop, rest)?;
     let (cached, rest) = take_number(LimitName::Cost, stop, rest)?;
-    let placement = Where {
+    let placement = Placement {
         pool,
         client,
         full,
@@ -110,9 +114,9 @@ fn take_where(alloc: Global, stop: Stop, tokens: &[TokenAt]) -> Result<(Where, &
     Ok((placement, rest))
 }
 
-/// The level, which is average where none stands there.
-fn take_level(stop: Stop, tokens: &[TokenAt]) -> Result<(Level, &[TokenAt]), Unread>
-    ensures { Gives (λ x. (x.0, x.1.now)) result (level_at stop tokens.now) }
+/// The level, which is average if none is next.
+fn take_level(stop: Stop, tokens: &[TokenAt]) -> Result<(Level, &[TokenAt]), TakeError>
+    ensures { Returns (λ x. (x.0, x.1.now)) result (level_at stop tokens.now) }
 {
     if !is_at_keyword("level", tokens) {
         return Ok((Level::Average, tokens));
@@ -121,19 +125,23 @@ fn take_level(stop: Stop, tokens: &[TokenAt]) -> Result<(Level, &[TokenAt]), Unr
     take_word::<Level>(stop, rest)
 }
 
-#[tactic(auto, unfolding(crate::specs::FileReading::manner_at))]
-fn take_manner(alloc: Global, stop: Stop, tokens: &[TokenAt]) -> Result<(Manner, &[TokenAt]), Unread>
-    ensures { Gives (λ x. (x.0, x.1.now)) result (manner_at file_limits stop tokens.now) }
+#[tactic(auto, unfolding(crate::specs::inside::FileReading::settings_at))]
+fn take_settings(
+    alloc: Global,
+    stop: Stop,
+    tokens: &[TokenAt],
+) -> Result<(Settings, &[TokenAt]), TakeError>
+    ensures { Returns (λ x. (x.0, x.1.now)) result (settings_at file_limits stop tokens.now) }
 {
     let (hint, rest) = take_optional_text(alloc, "hint", stop, tokens)?;
     let (urgent, rest) = take_flag("urgent", stop, rest)?;
     let (level, rest) = take_level(stop, rest)?;
-    let manner = Manner {
+    let settings = Settings {
         hint,
         urgent,
         level,
     };
-    Ok((manner, rest))
+    Ok((settings, rest))
 }
 
 /// Minutes to the east.
@@ -148,8 +156,8 @@ fn offset_of(side: SideWord, minutes: u64) -> i32
 }
 
 /// The side and the minutes of an offset.
-fn take_offset(stop: Stop, tokens: &[TokenAt]) -> Result<(i32, &[TokenAt]), Unread>
-    ensures { Gives (λ x. (x.0, x.1.now)) result (offset_at file_limits stop tokens.now) }
+fn take_offset(stop: Stop, tokens: &[TokenAt]) -> Result<(i32, &[TokenAt]), TakeError>
+    ensures { Returns (λ x. (x.0, x.1.now)) result (offset_at file_limits stop tokens.now) }
 {
     let (side, rest) = take_word::<SideWord>(stop, tokens)?;
     let (minutes, rest) = take_number(LimitName::Offset, stop, rest)?;
@@ -160,8 +168,8 @@ fn take_period(
     word: PeriodWord,
     stop: Stop,
     tokens: &[TokenAt],
-) -> Result<(Expiry, &[TokenAt]), Unread>
-    ensures { Gives (λ x. (x.0, x.1.now)) result (period_behind file_limits word stop tokens.now) }
+) -> Result<(Expiry, &[TokenAt]), TakeError>
+    ensures { Returns (λ x. (x.0, x.1.now)) result (period_after file_limits word stop tokens.now) }
 {
     match word {
         PeriodWord::Daily => {
@@ -186,19 +194,23 @@ fn take_period(
     }
 }
 
-/// A schedule, behind its word.
-#[tactic(auto, unfolding(crate::specs::FileReading::schedule_at))]
-fn take_schedule(stop: Stop, tokens: &[TokenAt]) -> Result<(Expiry, &[TokenAt]), Unread>
-    ensures { Gives (λ x. (x.0, x.1.now)) result (schedule_at file_limits stop tokens.now) }
+/// A schedule, after its word.
+#[tactic(auto, unfolding(crate::specs::inside::FileReading::schedule_at))]
+fn take_schedule(stop: Stop, tokens: &[TokenAt]) -> Result<(Expiry, &[TokenAt]), TakeError>
+    ensures { Returns (λ x. (x.0, x.1.now)) result (schedule_at file_limits stop tokens.now) }
 {
     let (word, rest) = take_word::<PeriodWord>(stop, tokens)?;
     take_period(word, stop, rest)
 }
 
-/// When a result is looked for anew. A file of version 1 has no schedules.
-#[tactic(auto, unfolding(crate::specs::FileReading::expiry_at))]
-fn take_expiry(version: u32, stop: Stop, tokens: &[TokenAt]) -> Result<(Expiry, &[TokenAt]), Unread>
-    ensures { Gives (λ x. (x.0, x.1.now)) result (expiry_at file_limits version stop tokens.now) }
+/// When a result expires. A file of version 1 has no schedules.
+#[tactic(auto, unfolding(crate::specs::inside::FileReading::expiry_at))]
+fn take_expiry(
+    version: u32,
+    stop: Stop,
+    tokens: &[TokenAt],
+) -> Result<(Expiry, &[TokenAt]), TakeError>
+    ensures { Returns (λ x. (x.0, x.1.now)) result (expiry_at file_limits version stop tokens.now) }
 {
     if is_at_keyword("valid_for", tokens) {
         let rest = take_keyword("valid_for", stop, tokens)?;
@@ -212,39 +224,39 @@ fn take_expiry(version: u32, stop: Stop, tokens: &[TokenAt]) -> Result<(Expiry, 
     Ok((Expiry::Never, tokens))
 }
 
-#[tactic(auto, unfolding(crate::specs::FileReading::keeping_at))]
-fn take_keeping(
+#[tactic(auto, unfolding(crate::specs::inside::FileReading::retention_at))]
+fn take_retention(
     version: u32,
     kind: OpWord,
     stop: Stop,
     tokens: &[TokenAt],
-) -> Result<(Keeping, &[TokenAt]), Unread>
-    ensures { Gives (λ x. (x.0, x.1.now)) result (keeping_at file_limits version kind stop tokens.now) }
+) -> Result<(Retention, &[TokenAt]), TakeError>
+    ensures { Returns (λ x. (x.0, x.1.now)) result (retention_at file_limits version kind stop tokens.now) }
 {
     match kind {
         OpWord::Build => {
             let (expiry, rest) = take_expiry(version, stop, tokens)?;
             let (latched, rest) = take_flag("latched", stop, rest)?;
-            Ok((Keeping { expiry, latched }, rest))
+            Ok((Retention { expiry, latched }, rest))
         }
         OpWord::Output => {
-            let keeping = Keeping {
+            let retention = Retention {
                 expiry: Expiry::Never,
                 latched: false,
             };
-            Ok((keeping, tokens))
+            Ok((retention, tokens))
         }
     }
 }
 
 /// The words of a command.
-#[tactic(auto, unfolding(crate::specs::FileReading::run_at))]
+#[tactic(auto, unfolding(crate::specs::inside::FileReading::run_at))]
 fn take_run(
     alloc: Global,
     stop: Stop,
     tokens: &[TokenAt],
-) -> Result<(ListOf<Text>, &[TokenAt]), Unread>
-    ensures { Gives (λ x. (x.0, x.1.now)) result (run_at file_limits stop tokens.now) }
+) -> Result<(ListOf<Text>, &[TokenAt]), TakeError>
+    ensures { Returns (λ x. (x.0, x.1.now)) result (run_at file_limits stop tokens.now) }
 {
     let rest = take_keyword("run", stop, tokens)?;
     let (first, rest) = take_text(alloc, stop, rest)?;
@@ -252,17 +264,17 @@ fn take_run(
 }
 
 /// The operation of these parts.
-fn op_of(
-    name: Text,
-    kind: OpWord,
-    placement: Where,
-    manner: Manner,
-    keeping: Keeping,
-    no_cancel: bool,
-    words: ListOf<Text>,
-) -> OpDecl
-    ensures { result ≡ op_of name kind placement manner keeping no_cancel words }
+fn op_of(head: OpHead, parts: OpParts) -> OpDecl
+    ensures { result ≡ op_of head.name head.kind parts.placement parts.settings parts.retention parts.no_cancel parts.words }
 {
+    let OpHead { name, kind } = head;
+    let OpParts {
+        placement,
+        settings,
+        retention,
+        no_cancel,
+        words,
+    } = parts;
     OpDecl {
         name,
         output: kind == OpWord::Output,
@@ -270,33 +282,38 @@ fn op_of(
         client: placement.client,
         full: placement.full,
         cached: placement.cached,
-        hint: manner.hint,
-        urgent: manner.urgent,
-        level: manner.level,
-        expiry: keeping.expiry,
-        latched: keeping.latched,
+        hint: settings.hint,
+        urgent: settings.urgent,
+        level: settings.level,
+        expiry: retention.expiry,
+        latched: retention.latched,
         no_cancel,
         words,
     }
 }
 
-/// An operation behind its kind.
-#[tactic(auto, unfolding(crate::specs::FileReading::op_at))]
+/// An operation after its kind.
+#[tactic(auto, unfolding(crate::specs::inside::FileReading::op_at))]
 pub(crate) fn take_op(
     alloc: Global,
     version: u32,
-    name: Text,
-    kind: OpWord,
+    head: OpHead,
     stop: Stop,
     tokens: &[TokenAt],
-) -> Result<(OpDecl, &[TokenAt]), Unread>
-    ensures { Gives (λ x. (x.0, x.1.now)) result (op_at file_limits version name kind stop tokens.now) }
+) -> Result<(OpDecl, &[TokenAt]), TakeError>
+    ensures { Returns (λ x. (x.0, x.1.now)) result (op_at file_limits version head.name head.kind stop tokens.now) }
 {
-    let (placement, rest) = take_where(alloc, stop, tokens)?;
-    let (manner, rest) = take_manner(alloc, stop, rest)?;
-    let (keeping, rest) = take_keeping(version, kind, stop, rest)?;
+    let (placement, rest) = take_placement(alloc, stop, tokens)?;
+    let (settings, rest) = take_settings(alloc, stop, rest)?;
+    let (retention, rest) = take_retention(version, head.kind, stop, rest)?;
     let (no_cancel, rest) = take_flag("no_cancel", stop, rest)?;
     let (words, rest) = take_run(alloc, stop, rest)?;
-    let op = op_of(name, kind, placement, manner, keeping, no_cancel, words);
-    Ok((op, rest))
+    let parts = OpParts {
+        placement,
+        settings,
+        retention,
+        no_cancel,
+        words,
+    };
+    Ok((op_of(head, parts), rest))
 }

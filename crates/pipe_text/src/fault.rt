@@ -1,6 +1,6 @@
 //! What may be wrong with a file.
 ghost use Rattle.std.specs.Prelude.{◌≡◌, ◌≤◌};
-ghost use Rattle.pipe_text.specs.declared.fault.Unread.TheVariants.{NoMemory};
+ghost use Rattle.pipe_text.specs.declared.fault.TakeError.TheVariants.{NoMemory};
 ghost use Rattle.pipe_text.specs.LimitTable.{number_of, least_of, limit_letters};
 
 use std::alloc::{AllocError, AllocFailed};
@@ -123,20 +123,20 @@ impl LimitName {
     }
 }
 
-/// Why a file was not read. Places are counted in bytes from 0.
+/// Why a file was not read. Offsets are counted in bytes from 0.
 #[derive(Debug, Drop)]
 pub enum ReadFault {
     /// No token or comment begins at this offset.
     Lex(usize),
-    /// No file goes on with the token at this offset, or a file that ends at this offset is cut off.
+    /// No valid file continues with the token at this offset, or a file that ends here is cut off.
     Syntax(usize),
     /// The token at this offset goes beyond the limit, or below its least number. The number is
     /// the greatest one within the limit.
     Limit(LimitName, u64, usize),
-    /// A declaration of one kind has this name before. For a client, one of the same pool has,
+    /// An earlier declaration of the kind has this name. For a client, one of the same pool has,
     /// and the offset is that of the pool's name.
     Duplicate(Text, usize),
-    /// Memory ran out. Nothing is known of the file.
+    /// Out of memory. Nothing is known of the file.
     NoMemory,
 }
 
@@ -151,23 +151,23 @@ pub enum Fault {
 
 /// Why tokens were not read.
 #[derive(Debug, Drop)]
-pub enum Unread {
+pub enum TakeError {
     NoMemory,
     At(Fault),
 }
 
-impl From<AllocError> for Unread {
+impl From<AllocError> for TakeError {
     ghost from_gives = { λ _ e. e ≡ NoMemory };
 
-    fn from(_e: AllocError) -> Unread {
-        Unread::NoMemory
+    fn from(_e: AllocError) -> TakeError {
+        TakeError::NoMemory
     }
 }
 
-impl<T: Drop> From<AllocFailed<T>> for Unread {
+impl<T: Drop> From<AllocFailed<T>> for TakeError {
     ghost from_gives = { λ _ e. e ≡ NoMemory };
 
-    fn from(_e: AllocFailed<T>) -> Unread {
-        Unread::NoMemory
+    fn from(_e: AllocFailed<T>) -> TakeError {
+        TakeError::NoMemory
     }
 }

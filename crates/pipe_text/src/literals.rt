@@ -1,27 +1,27 @@
 //! Lists of texts, commands, and literals.
 ghost use Rattle.std.specs.Prelude.{◌≡◌, ◌<◌, [], ◌∷◌, IfOk, IfSome};
 ghost use Rattle.value_core.specs.declared.value.Value.TheVariants as value;
-ghost use Rattle.pipe_text.specs.Readers.{Gives, seq, give};
+ghost use Rattle.pipe_text.specs.inside.Readers.{Returns, seq, give};
 ghost use Rattle.pipe_text.specs.Grammar.{list_of};
-ghost use Rattle.pipe_text.specs.Standing.{file_limits};
-ghost use Rattle.pipe_text.specs.TermReading.{item_at, command_word_at, texts_at, items_at, literal_at, behind};
+ghost use Rattle.pipe_text.specs.Files.{file_limits};
+ghost use Rattle.pipe_text.specs.inside.TermReading.{item_at, command_word_at, texts_at, items_at, literal_at, following};
 
-use crate::fault::{LimitName, Unread};
+use crate::fault::{LimitName, TakeError};
 use crate::taking::{
     is_at_mark, is_at_string, limit_at, syntax_at, take_mark, take_room, take_text, take_token,
 };
 use std::alloc::Global;
-use value_core::{ListOf, TokenAt, Stop, Text, Token, Value};
+use value_core::{ListOf, Stop, Text, Token, TokenAt, Value};
 
-/// One more text of a list, or none where the bracket closes.
-#[tactic(auto, unfolding(crate::specs::TermReading::item_at))]
+/// One more text of a list, or none if the bracket closes.
+#[tactic(auto, unfolding(crate::specs::inside::TermReading::item_at))]
 fn take_item(
     alloc: Global,
     room: u64,
     stop: Stop,
     tokens: &[TokenAt],
-) -> Result<(Option<Text>, &[TokenAt]), Unread>
-    ensures gives { Gives (λ x. (x.0, x.1.now)) result (item_at file_limits room stop tokens.now) }
+) -> Result<(Option<Text>, &[TokenAt]), TakeError>
+    ensures gives { Returns (λ x. (x.0, x.1.now)) result (item_at file_limits room stop tokens.now) }
     ensures room { IfOk result (λ x. IfSome x.0 (λ t. 0 < room)) }
 {
     let (token, rest) = take_token(stop, tokens)?;
@@ -46,8 +46,8 @@ fn take_more_items(
     first: Text,
     stop: Stop,
     tokens: &[TokenAt],
-) -> Result<(ListOf<Value>, &[TokenAt]), Unread>
-    ensures { Gives (λ x. (x.0, x.1.now)) result (behind value.Words (value.Words first ∷ []) (texts_at (item_at file_limits) 255 stop tokens.now)) }
+) -> Result<(ListOf<Value>, &[TokenAt]), TakeError>
+    ensures { Returns (λ x. (x.0, x.1.now)) result (following value.Words (value.Words first ∷ []) (texts_at (item_at file_limits) 255 stop tokens.now)) }
 {
     let mut items = ListOf::new(alloc);
     items.push(Value::Words(first))?;
@@ -68,14 +68,14 @@ fn take_more_items(
     }
 }
 
-/// The list behind its opening bracket.
-#[tactic(auto, unfolding(crate::specs::TermReading::items_at))]
+/// The list after its opening bracket.
+#[tactic(auto, unfolding(crate::specs::inside::TermReading::items_at))]
 pub(crate) fn take_items(
     alloc: Global,
     stop: Stop,
     tokens: &[TokenAt],
-) -> Result<(Value, &[TokenAt]), Unread>
-    ensures { Gives (λ x. (x.0, x.1.now)) result (seq (items_at file_limits) (λ ts. give (list_of ts)) stop tokens.now) }
+) -> Result<(Value, &[TokenAt]), TakeError>
+    ensures { Returns (λ x. (x.0, x.1.now)) result (seq (items_at file_limits) (λ ts. give (list_of ts)) stop tokens.now) }
 {
     if is_at_mark(b']', tokens) {
         let rest = take_mark(b']', stop, tokens)?;
@@ -87,13 +87,13 @@ pub(crate) fn take_items(
 }
 
 /// A text, a number, unit or a list of texts.
-#[tactic(auto, unfolding(crate::specs::TermReading::literal_at))]
+#[tactic(auto, unfolding(crate::specs::inside::TermReading::literal_at))]
 pub(crate) fn take_literal(
     alloc: Global,
     stop: Stop,
     tokens: &[TokenAt],
-) -> Result<(Value, &[TokenAt]), Unread>
-    ensures { Gives (λ x. (x.0, x.1.now)) result (literal_at file_limits stop tokens.now) }
+) -> Result<(Value, &[TokenAt]), TakeError>
+    ensures { Returns (λ x. (x.0, x.1.now)) result (literal_at file_limits stop tokens.now) }
 {
     let (token, rest) = take_token(stop, tokens)?;
     match &token.token {
@@ -118,15 +118,15 @@ pub(crate) fn take_literal(
     }
 }
 
-/// One more word of a command, where a string stands there.
-#[tactic(auto, unfolding(crate::specs::TermReading::command_word_at))]
+/// One more word of a command, if a string is next.
+#[tactic(auto, unfolding(crate::specs::inside::TermReading::command_word_at))]
 fn take_command_word(
     alloc: Global,
     room: u64,
     stop: Stop,
     tokens: &[TokenAt],
-) -> Result<(Option<Text>, &[TokenAt]), Unread>
-    ensures gives { Gives (λ x. (x.0, x.1.now)) result (command_word_at file_limits room stop tokens.now) }
+) -> Result<(Option<Text>, &[TokenAt]), TakeError>
+    ensures gives { Returns (λ x. (x.0, x.1.now)) result (command_word_at file_limits room stop tokens.now) }
     ensures room { IfOk result (λ x. IfSome x.0 (λ t. 0 < room)) }
 {
     if !is_at_string(tokens) {
@@ -142,8 +142,8 @@ pub(crate) fn take_more_words(
     first: Text,
     stop: Stop,
     tokens: &[TokenAt],
-) -> Result<(ListOf<Text>, &[TokenAt]), Unread>
-    ensures { Gives (λ x. (x.0, x.1.now)) result (behind (λ t. t) (first ∷ []) (texts_at (command_word_at file_limits) 63 stop tokens.now)) }
+) -> Result<(ListOf<Text>, &[TokenAt]), TakeError>
+    ensures { Returns (λ x. (x.0, x.1.now)) result (following (λ t. t) (first ∷ []) (texts_at (command_word_at file_limits) 63 stop tokens.now)) }
 {
     let mut words = ListOf::new(alloc);
     words.push(first)?;

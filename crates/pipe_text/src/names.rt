@@ -5,15 +5,15 @@ ghost use Rattle.std.specs.Ordering.{nat_cmp};
 ghost use Rattle.std.specs.Cmp.Lexicographic.{slice_cmp};
 ghost use Rattle.std.specs.BTreeSet.{contains};
 ghost use Rattle.pipe_text.specs.declared.words.DeclWord.{DeclWord};
-ghost use Rattle.pipe_text.specs.Looking.{named_in, is_named};
+ghost use Rattle.pipe_text.specs.inside.Known.{named_in, is_named};
 
 use crate::words::DeclWord;
 use std::alloc::{AllocError, Global};
 use std::collections::BTreeSet;
 use value_core::Text;
 
-/// The names that were declared, in a set for each kind. Clients are told by their pool too, and
-/// have none.
+/// The names that were declared, in a set for each kind. Clients are identified by their pool too,
+/// and have none.
 #[derive(Drop)]
 pub struct Names {
     pub inputs: BTreeSet<Text>,

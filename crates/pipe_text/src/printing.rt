@@ -1,12 +1,12 @@
-//! Printing a program, as a file that stands for it.
+//! Printing a program as its file.
 ghost use Rattle.std.specs.Prelude.{◌≡◌, ◌≤◌, ◌∷◌, ◌++◌, [], List, Ok, true, ℤ, length, map, codes, IfOk, OnOk, if◌then◌else◌};
 ghost use Rattle.std.specs.List.{flat_map};
 ghost use Rattle.value_core.specs.declared.token.Token.{Token};
 ghost use Rattle.value_core.specs.declared.token.Token.TheVariants.{Name, Number, Words, Mark};
-ghost use Rattle.pipe_text.specs.FileReading.{pipeline_of};
-ghost use Rattle.pipe_text.specs.Standing.{IsGiven, StandsFor};
+ghost use Rattle.pipe_text.specs.inside.FileReading.{pipeline_of};
+ghost use Rattle.pipe_text.specs.Files.{HasSpelling, IsFileOf, IsSpelled};
 ghost use Rattle.pipe_text.specs.Words.{fun_letters, kind_letters, level_letters};
-ghost use Rattle.pipe_text.specs.Printing.{item_tokens, items_tokens, literal_tokens, term_tokens, value_layer_word, text_tokens, flag_tokens, level_tokens, offset_tokens, expiry_tokens, input_tokens, pool_tokens, client_tokens, worker_tokens, kind_tokens, where_tokens, manner_tokens, keeping_tokens, run_tokens, op_tokens, node_tokens, lines_of, pipeline_text, with_token, after, with_end, after_lines};
+ghost use Rattle.pipe_text.specs.Printing.{item_tokens, items_tokens, literal_tokens, term_tokens, value_layer_word, text_tokens, flag_tokens, level_tokens, offset_tokens, expiry_tokens, input_tokens, pool_tokens, client_tokens, worker_tokens, kind_tokens, placement_tokens, settings_tokens, retention_tokens, run_tokens, op_tokens, node_tokens, lines_of, pipeline_text, with_token, after, with_end, after_lines};
 ghost use Rattle.value_core.specs.declared.value.Value.{out-Value};
 
 use op_keys::{ClientDecl, Expiry, Level, OpDecl, PoolDecl, WorkerDecl};
@@ -479,8 +479,8 @@ fn put_kind(printer: &mut Printer, op: &OpDecl) -> Result<(), NoMemory>
     }
 }
 
-fn put_where(printer: &mut Printer, op: &OpDecl) -> Result<(), NoMemory>
-    ensures { OnOk result (printer.new ≡ after printer.old (where_tokens op.now)) }
+fn put_placement(printer: &mut Printer, op: &OpDecl) -> Result<(), NoMemory>
+    ensures { OnOk result (printer.new ≡ after printer.old (placement_tokens op.now)) }
 {
     printer.word("pool")?;
     printer.name(&op.pool)?;
@@ -492,8 +492,8 @@ fn put_where(printer: &mut Printer, op: &OpDecl) -> Result<(), NoMemory>
 }
 
 #[tactic(auto, using(crate::proofs::Printings::after_both))]
-fn put_manner(printer: &mut Printer, op: &OpDecl) -> Result<(), NoMemory>
-    ensures { OnOk result (printer.new ≡ after printer.old (manner_tokens op.now)) }
+fn put_settings(printer: &mut Printer, op: &OpDecl) -> Result<(), NoMemory>
+    ensures { OnOk result (printer.new ≡ after printer.old (settings_tokens op.now)) }
 {
     put_optional(printer, "hint", &op.hint)?;
     put_flag(printer, "urgent", op.urgent)?;
@@ -501,8 +501,8 @@ fn put_manner(printer: &mut Printer, op: &OpDecl) -> Result<(), NoMemory>
 }
 
 #[tactic(auto, using(crate::proofs::Printings::after_both))]
-fn put_keeping(printer: &mut Printer, op: &OpDecl) -> Result<(), NoMemory>
-    ensures { OnOk result (printer.new ≡ after printer.old (keeping_tokens op.now)) }
+fn put_retention(printer: &mut Printer, op: &OpDecl) -> Result<(), NoMemory>
+    ensures { OnOk result (printer.new ≡ after printer.old (retention_tokens op.now)) }
 {
     put_expiry(printer, op.expiry)?;
     put_flag(printer, "latched", op.latched)?;
@@ -596,9 +596,9 @@ impl Declared for OpDecl {
     #[tactic(auto, using(crate::proofs::Printings::after_both))]
     fn put(&self, printer: &mut Printer) -> Result<(), NoMemory> {
         put_kind(printer, self)?;
-        put_where(printer, self)?;
-        put_manner(printer, self)?;
-        put_keeping(printer, self)?;
+        put_placement(printer, self)?;
+        put_settings(printer, self)?;
+        put_retention(printer, self)?;
         put_run(printer, self.words.as_slice())
     }
 }
@@ -642,10 +642,12 @@ fn put_program(printer: &mut Printer, program: &Program) -> Result<(), NoMemory>
 /// They have no bound of length.
 pub fn print_pipeline(alloc: Global, program: &Program) -> Result<ListOf<u8>, NoMemory>
     ensures bytes { IfOk result (λ b. b ≡ pipeline_text program.now) }
-    // What is printed stands for the program, where a file can give it and the bytes are not too many.
-    ensures stands { IfOk result (λ b. IsGiven program.now → length b ≤ 1048576 → StandsFor b program.now) }
-    // Reading then gives the program back.
-    ensures read_back { IfOk result (λ b. IsGiven program.now → length b ≤ 1048576 → pipeline_of b ≡ Ok program.now) }
+    // What is printed spells a program that some bytes spell.
+    ensures spelled { IfOk result (λ b. HasSpelling program.now → IsSpelled b program.now) }
+    // It is a file of that program, if the bytes are not too many.
+    ensures file { IfOk result (λ b. HasSpelling program.now → length b ≤ 1048576 → IsFileOf b program.now) }
+    // Reading then returns the program.
+    ensures read_back { IfOk result (λ b. HasSpelling program.now → length b ≤ 1048576 → pipeline_of b ≡ Ok program.now) }
 {
     let mut printer = Printer::new(alloc);
     put_program(&mut printer, program)?;

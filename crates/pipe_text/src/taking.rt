@@ -2,40 +2,43 @@
 ghost use Rattle.std.specs.Prelude.{◌≡◌, ◌<◌, ◌≤◌, IfOk};
 ghost use Rattle.value_core.specs.Literals.{is_mark_of};
 ghost use Rattle.pipe_text.specs.LimitTable.{number_of};
-ghost use Rattle.pipe_text.specs.Readers.{Gives, fault_of, token_at, mark_at, word_at, keyword_at, is_keyword, is_string, next_passes};
-ghost use Rattle.pipe_text.specs.Standing.{file_limits};
-ghost use Rattle.pipe_text.specs.TermReading.{beyond, name_at, text_at, number_at, room_at, open_at};
-ghost use Rattle.pipe_text.specs.FileReading.{any_number_at};
+ghost use Rattle.pipe_text.specs.inside.Readers.{Returns, fault_of, token_at, mark_at, word_at, keyword_at, is_keyword, is_string, next_passes};
+ghost use Rattle.pipe_text.specs.Files.{file_limits};
+ghost use Rattle.pipe_text.specs.inside.TermReading.{beyond, name_at, text_at, number_at, room_at, open_at};
+ghost use Rattle.pipe_text.specs.inside.FileReading.{any_number_at};
 
-use crate::fault::{Fault, LimitName, Unread};
+use crate::fault::{Fault, LimitName, TakeError};
 use crate::words::Keyword;
 use std::alloc::Global;
-use value_core::{TokenAt, Stop, Text, Token};
+use value_core::{Stop, Text, Token, TokenAt};
 
-/// The fault where a token is wanted and the tokens stop.
-pub(crate) fn stop_fault(stop: Stop) -> Unread
-    ensures { result ≡ Unread.At (fault_of stop) }
+/// The fault if a token is wanted and the tokens stop.
+pub(crate) fn stop_fault(stop: Stop) -> TakeError
+    ensures { result ≡ TakeError.At (fault_of stop) }
 {
     match stop {
-        Stop::Lex(offset) => Unread::At(Fault::Lex(offset)),
-        Stop::End(offset) => Unread::At(Fault::Syntax(offset)),
+        Stop::Lex(offset) => TakeError::At(Fault::Lex(offset)),
+        Stop::End(offset) => TakeError::At(Fault::Syntax(offset)),
     }
 }
 
-pub(crate) fn syntax_at(offset: usize) -> Unread
-    ensures { result ≡ Unread.At (Fault.Syntax offset) }
+pub(crate) fn syntax_at(offset: usize) -> TakeError
+    ensures { result ≡ TakeError.At (Fault.Syntax offset) }
 {
-    Unread::At(Fault::Syntax(offset))
+    TakeError::At(Fault::Syntax(offset))
 }
 
-pub(crate) fn limit_at(what: LimitName, offset: usize) -> Unread
-    ensures { result ≡ Unread.At (beyond what offset) }
+pub(crate) fn limit_at(what: LimitName, offset: usize) -> TakeError
+    ensures { result ≡ TakeError.At (beyond what offset) }
 {
-    Unread::At(Fault::Limit(what, what.number(), offset))
+    TakeError::At(Fault::Limit(what, what.number(), offset))
 }
 
-pub(crate) fn take_token(stop: Stop, tokens: &[TokenAt]) -> Result<(&TokenAt, &[TokenAt]), Unread>
-    ensures { Gives (λ x. (x.0.now, x.1.now)) result (token_at stop tokens.now) }
+pub(crate) fn take_token(
+    stop: Stop,
+    tokens: &[TokenAt],
+) -> Result<(&TokenAt, &[TokenAt]), TakeError>
+    ensures { Returns (λ x. (x.0.now, x.1.now)) result (token_at stop tokens.now) }
 {
     match tokens {
         [] => Err(stop_fault(stop)),
@@ -43,7 +46,7 @@ pub(crate) fn take_token(stop: Stop, tokens: &[TokenAt]) -> Result<(&TokenAt, &[
     }
 }
 
-/// Whether this mark stands at the front.
+/// Whether this mark is next.
 pub(crate) fn is_at_mark(mark: u8, tokens: &[TokenAt]) -> bool
     ensures { result ≡ next_passes (is_mark_of mark) tokens.now }
 {
@@ -56,7 +59,7 @@ pub(crate) fn is_at_mark(mark: u8, tokens: &[TokenAt]) -> bool
     }
 }
 
-/// Whether a string stands at the front.
+/// Whether a string is next.
 pub(crate) fn is_at_string(tokens: &[TokenAt]) -> bool
     ensures { result ≡ next_passes is_string tokens.now }
 {
@@ -66,7 +69,7 @@ pub(crate) fn is_at_string(tokens: &[TokenAt]) -> bool
     }
 }
 
-/// Whether the keyword with these letters stands at the front.
+/// Whether the keyword with these letters is next.
 pub(crate) fn is_at_keyword(letters: &str, tokens: &[TokenAt]) -> bool
     ensures { result ≡ next_passes (is_keyword letters.now) tokens.now }
 {
@@ -79,8 +82,8 @@ pub(crate) fn is_at_keyword(letters: &str, tokens: &[TokenAt]) -> bool
     }
 }
 
-pub(crate) fn take_mark(mark: u8, stop: Stop, tokens: &[TokenAt]) -> Result<&[TokenAt], Unread>
-    ensures { Gives (λ x. (tt, x.now)) result (mark_at mark stop tokens.now) }
+pub(crate) fn take_mark(mark: u8, stop: Stop, tokens: &[TokenAt]) -> Result<&[TokenAt], TakeError>
+    ensures { Returns (λ x. (tt, x.now)) result (mark_at mark stop tokens.now) }
 {
     let (token, rest) = take_token(stop, tokens)?;
     match &token.token {
@@ -100,8 +103,8 @@ pub(crate) fn take_keyword<'a>(
     letters: &str,
     stop: Stop,
     tokens: &'a [TokenAt],
-) -> Result<&'a [TokenAt], Unread>
-    ensures { Gives (λ x. (tt, x.now)) result (keyword_at letters.now stop tokens.now) }
+) -> Result<&'a [TokenAt], TakeError>
+    ensures { Returns (λ x. (tt, x.now)) result (keyword_at letters.now stop tokens.now) }
 {
     let (token, rest) = take_token(stop, tokens)?;
     match &token.token {
@@ -116,13 +119,16 @@ pub(crate) fn take_keyword<'a>(
     }
 }
 
-/// What is told by the word at the front.
-pub(crate) fn take_word<W: Keyword>(stop: Stop, tokens: &[TokenAt]) -> Result<(W, &[TokenAt]), Unread>
-    ensures { Gives (λ x. (x.0, x.1.now)) result (word_at W.told stop tokens.now) }
+/// What the next word spells.
+pub(crate) fn take_word<W: Keyword>(
+    stop: Stop,
+    tokens: &[TokenAt],
+) -> Result<(W, &[TokenAt]), TakeError>
+    ensures { Returns (λ x. (x.0, x.1.now)) result (word_at W.parsed stop tokens.now) }
 {
     let (token, rest) = take_token(stop, tokens)?;
     match &token.token {
-        Token::Name(name) => match W::of(name) {
+        Token::Name(name) => match W::parse(name) {
             Some(word) => Ok((word, rest)),
             None => Err(syntax_at(token.offset)),
         },
@@ -134,8 +140,8 @@ pub(crate) fn take_name(
     alloc: Global,
     stop: Stop,
     tokens: &[TokenAt],
-) -> Result<(Text, &[TokenAt]), Unread>
-    ensures { Gives (λ x. (x.0, x.1.now)) result (name_at file_limits stop tokens.now) }
+) -> Result<(Text, &[TokenAt]), TakeError>
+    ensures { Returns (λ x. (x.0, x.1.now)) result (name_at file_limits stop tokens.now) }
 {
     let (token, rest) = take_token(stop, tokens)?;
     match &token.token {
@@ -149,8 +155,8 @@ pub(crate) fn take_text(
     alloc: Global,
     stop: Stop,
     tokens: &[TokenAt],
-) -> Result<(Text, &[TokenAt]), Unread>
-    ensures { Gives (λ x. (x.0, x.1.now)) result (text_at file_limits stop tokens.now) }
+) -> Result<(Text, &[TokenAt]), TakeError>
+    ensures { Returns (λ x. (x.0, x.1.now)) result (text_at file_limits stop tokens.now) }
 {
     let (token, rest) = take_token(stop, tokens)?;
     match &token.token {
@@ -160,15 +166,15 @@ pub(crate) fn take_text(
     }
 }
 
-/// A text, where there is room for `room` more under a limit.
+/// A text, if there is room for `room` more under a limit.
 pub(crate) fn take_room(
     alloc: Global,
     what: LimitName,
     room: u64,
     stop: Stop,
     tokens: &[TokenAt],
-) -> Result<(Text, &[TokenAt]), Unread>
-    ensures gives { Gives (λ x. (x.0, x.1.now)) result (room_at file_limits what room stop tokens.now) }
+) -> Result<(Text, &[TokenAt]), TakeError>
+    ensures gives { Returns (λ x. (x.0, x.1.now)) result (room_at file_limits what room stop tokens.now) }
     ensures room { IfOk result (λ x. 0 < room) }
 {
     let (token, rest) = take_token(stop, tokens)?;
@@ -185,8 +191,11 @@ pub(crate) fn take_room(
     }
 }
 
-pub(crate) fn take_any_number(stop: Stop, tokens: &[TokenAt]) -> Result<(u64, &[TokenAt]), Unread>
-    ensures { Gives (λ x. (x.0, x.1.now)) result (any_number_at stop tokens.now) }
+pub(crate) fn take_any_number(
+    stop: Stop,
+    tokens: &[TokenAt],
+) -> Result<(u64, &[TokenAt]), TakeError>
+    ensures { Returns (λ x. (x.0, x.1.now)) result (any_number_at stop tokens.now) }
 {
     let (token, rest) = take_token(stop, tokens)?;
     match &token.token {
@@ -200,8 +209,8 @@ pub(crate) fn take_number(
     what: LimitName,
     stop: Stop,
     tokens: &[TokenAt],
-) -> Result<(u64, &[TokenAt]), Unread>
-    ensures gives { Gives (λ x. (x.0, x.1.now)) result (number_at file_limits what stop tokens.now) }
+) -> Result<(u64, &[TokenAt]), TakeError>
+    ensures gives { Returns (λ x. (x.0, x.1.now)) result (number_at file_limits what stop tokens.now) }
     ensures within { IfOk result (λ x. x.0 ≤ number_of what) }
 {
     let (token, rest) = take_token(stop, tokens)?;
@@ -225,8 +234,8 @@ pub(crate) fn take_open(
     left: u32,
     stop: Stop,
     tokens: &[TokenAt],
-) -> Result<&[TokenAt], Unread>
-    ensures gives { Gives (λ x. (tt, x.now)) result (open_at depth left stop tokens.now) }
+) -> Result<&[TokenAt], TakeError>
+    ensures gives { Returns (λ x. (tt, x.now)) result (open_at depth left stop tokens.now) }
     ensures room { IfOk result (λ x. (0 < depth) × (0 < left)) }
 {
     let (token, rest) = take_token(stop, tokens)?;

@@ -1,40 +1,70 @@
-//! Terms, each behind its opening bracket.
+//! Terms, each after its opening bracket.
 ghost use Rattle.std.specs.Prelude.{◌≡◌, ◌+◌, ◌<◌, ◌≤◌, ◌-◌, ◌^◌, IfOk, IfSome};
-ghost use Rattle.pipe_text.specs.Readers.{Gives};
-ghost use Rattle.pipe_text.specs.Standing.{file_limits};
-ghost use Rattle.pipe_text.specs.TermReading.{two_at, part_at, parts_at, body_at, term_at};
+ghost use Rattle.pipe_text.specs.inside.Readers.{Returns};
+ghost use Rattle.pipe_text.specs.Files.{file_limits};
+ghost use Rattle.pipe_text.specs.inside.TermReading.{two_at, part_at, parts_at, body_at, term_at};
 
-use crate::fault::Unread;
+use crate::fault::TakeError;
 use crate::literals::take_literal;
 use crate::taking::{is_at_mark, take_mark, take_name, take_open, take_text, take_word};
 use crate::words::BodyWord;
 use sqlite_items::Boxed;
 use std::alloc::Global;
 use term_core::{FailKind, Term};
-use value_core::{Fun, ListOf, TokenAt, Stop};
+use value_core::{Fun, ListOf, Stop, TokenAt};
+
+/// How many brackets may be open inside one another, and for how many terms there is room.
+#[derive(Clone, Copy, Debug, PartialEq, Eq)]
+pub struct Room {
+    pub depth: u8,
+    pub left: u32,
+}
+
+impl Room {
+    /// The room after so many terms.
+    fn without(self, used: u32) -> Room
+        requires { used ≤ self.left }
+        ensures { result ≡ record { depth = self.depth; left = self.left - used } }
+    {
+        Room {
+            depth: self.depth,
+            left: self.left - used,
+        }
+    }
+
+    /// The room inside one more bracket.
+    fn inside(self) -> Room
+        requires depth { 0 < self.depth }
+        requires left { 0 < self.left }
+        ensures { result ≡ record { depth = self.depth - 1; left = self.left - 1 } }
+    {
+        Room {
+            depth: self.depth - 1,
+            left: self.left - 1,
+        }
+    }
+}
 
 /// Two terms.
 #[derive(Drop)]
-pub struct Two {
+pub struct TermPair {
     pub first: Boxed<Term>,
     pub second: Boxed<Term>,
 }
 
-/// What stands behind a term's word, with room for `left` terms in it, each with at most `depth`
-/// brackets inside one another.
+/// The part of a term after its word.
 #[cycle(terms)]
-#[tactic(auto, unfolding(crate::specs::TermReading::body_at))]
+#[tactic(auto, unfolding(crate::specs::inside::TermReading::body_at))]
 fn take_body(
     alloc: Global,
     word: BodyWord,
-    depth: u8,
-    left: u32,
+    room: Room,
     stop: Stop,
     tokens: &[TokenAt],
-) -> Result<(Term, u32, &[TokenAt]), Unread>
-    requires { left < 2 ^ 31 }
-    ensures gives { Gives (λ x. ((x.0, x.1), x.2.now)) result (body_at file_limits (term_at file_limits depth) left word stop tokens.now) }
-    ensures used { IfOk result (λ x. (0 < x.1) × (x.1 ≤ left + 1)) }
+) -> Result<(Term, u32, &[TokenAt]), TakeError>
+    requires { room.left < 2 ^ 31 }
+    ensures gives { Returns (λ x. ((x.0, x.1), x.2.now)) result (body_at file_limits (term_at file_limits room.depth) room.left word stop tokens.now) }
+    ensures used { IfOk result (λ x. (0 < x.1) × (x.1 ≤ room.left + 1)) }
 {
     match word {
         BodyWord::Return => {
@@ -60,19 +90,19 @@ fn take_body(
         }
         BodyWord::Map => {
             let (fun, rest) = take_word::<Fun>(stop, tokens)?;
-            let (inner, used, rest) = take_term(alloc, depth, left, stop, rest)?;
+            let (inner, used, rest) = take_term(alloc, room, stop, rest)?;
             let inner = Boxed::new(alloc, inner)?;
             Ok((Term::Map { fun, term: inner }, 1 + used, rest))
         }
         BodyWord::Pair => {
-            let (two, used, rest) = take_two(alloc, depth, left, stop, tokens)?;
-            let Two { first, second } = two;
+            let (two, used, rest) = take_two(alloc, room, stop, tokens)?;
+            let TermPair { first, second } = two;
             Ok((Term::Pair(first, second), 1 + used, rest))
         }
         BodyWord::Bind => {
             let (name, rest) = take_name(alloc, stop, tokens)?;
-            let (two, used, rest) = take_two(alloc, depth, left, stop, rest)?;
-            let Two { first, second } = two;
+            let (two, used, rest) = take_two(alloc, room, stop, rest)?;
+            let TermPair { first, second } = two;
             Ok((
                 Term::Bind {
                     name,
@@ -85,8 +115,8 @@ fn take_body(
         }
         BodyWord::ListMap => {
             let (name, rest) = take_name(alloc, stop, tokens)?;
-            let (two, used, rest) = take_two(alloc, depth, left, stop, rest)?;
-            let Two { first, second } = two;
+            let (two, used, rest) = take_two(alloc, room, stop, rest)?;
+            let TermPair { first, second } = two;
             Ok((
                 Term::ListMap {
                     name,
@@ -99,8 +129,8 @@ fn take_body(
         }
         BodyWord::ListIter => {
             let (name, rest) = take_name(alloc, stop, tokens)?;
-            let (two, used, rest) = take_two(alloc, depth, left, stop, rest)?;
-            let Two { first, second } = two;
+            let (two, used, rest) = take_two(alloc, room, stop, rest)?;
+            let TermPair { first, second } = two;
             Ok((
                 Term::ListIter {
                     name,
@@ -112,32 +142,32 @@ fn take_body(
             ))
         }
         BodyWord::Catch => {
-            let (inner, used, rest) = take_term(alloc, depth, left, stop, tokens)?;
+            let (inner, used, rest) = take_term(alloc, room, stop, tokens)?;
             Ok((Term::Catch(Boxed::new(alloc, inner)?), 1 + used, rest))
         }
         BodyWord::State => {
-            let (inner, used, rest) = take_term(alloc, depth, left, stop, tokens)?;
+            let (inner, used, rest) = take_term(alloc, room, stop, tokens)?;
             Ok((Term::State(Boxed::new(alloc, inner)?), 1 + used, rest))
         }
         BodyWord::Gate => {
-            let (two, used, rest) = take_two(alloc, depth, left, stop, tokens)?;
-            let Two { first, second } = two;
+            let (two, used, rest) = take_two(alloc, room, stop, tokens)?;
+            let TermPair { first, second } = two;
             Ok((Term::Gate(first, second), 1 + used, rest))
         }
         BodyWord::All => {
-            let (parts, used, rest) = take_parts(alloc, depth, left, stop, tokens)?;
+            let (parts, used, rest) = take_parts(alloc, room, stop, tokens)?;
             Ok((Term::All(parts), 1 + used, rest))
         }
         BodyWord::Build => {
             let (op, rest) = take_name(alloc, stop, tokens)?;
-            let (key, used, rest) = take_term(alloc, depth, left, stop, rest)?;
+            let (key, used, rest) = take_term(alloc, room, stop, rest)?;
             let key = Boxed::new(alloc, key)?;
             Ok((Term::Build { op, key }, 1 + used, rest))
         }
         BodyWord::Output => {
             let (op, rest) = take_name(alloc, stop, tokens)?;
-            let (two, used, rest) = take_two(alloc, depth, left, stop, rest)?;
-            let Two { first, second } = two;
+            let (two, used, rest) = take_two(alloc, room, stop, rest)?;
+            let TermPair { first, second } = two;
             Ok((
                 Term::Output {
                     op,
@@ -151,46 +181,44 @@ fn take_body(
     }
 }
 
-/// Two terms, with room for `left` in both.
+/// Two terms, with the room for both.
 #[cycle(terms)]
-#[tactic(auto, unfolding(crate::specs::TermReading::two_at))]
+#[tactic(auto, unfolding(crate::specs::inside::TermReading::two_at))]
 fn take_two(
     alloc: Global,
-    depth: u8,
-    left: u32,
+    room: Room,
     stop: Stop,
     tokens: &[TokenAt],
-) -> Result<(Two, u32, &[TokenAt]), Unread>
-    requires { left < 2 ^ 31 }
-    ensures gives { Gives (λ x. (((x.0.first, x.0.second), x.1), x.2.now)) result (two_at (term_at file_limits depth) left stop tokens.now) }
-    ensures used { IfOk result (λ x. x.1 ≤ left) }
+) -> Result<(TermPair, u32, &[TokenAt]), TakeError>
+    requires { room.left < 2 ^ 31 }
+    ensures gives { Returns (λ x. (((x.0.first, x.0.second), x.1), x.2.now)) result (two_at (term_at file_limits room.depth) room.left stop tokens.now) }
+    ensures used { IfOk result (λ x. x.1 ≤ room.left) }
 {
-    let (first, used, rest) = take_term(alloc, depth, left, stop, tokens)?;
-    let (second, more, rest) = take_term(alloc, depth, left - used, stop, rest)?;
+    let (first, used, rest) = take_term(alloc, room, stop, tokens)?;
+    let (second, more, rest) = take_term(alloc, room.without(used), stop, rest)?;
     let first = Boxed::new(alloc, first)?;
     let second = Boxed::new(alloc, second)?;
-    let two = Two { first, second };
+    let two = TermPair { first, second };
     Ok((two, used + more, rest))
 }
 
-/// One more term, where an opening bracket stands there.
+/// One more term, if an opening bracket is next.
 #[cycle(terms)]
-#[tactic(auto, unfolding(crate::specs::TermReading::part_at))]
+#[tactic(auto, unfolding(crate::specs::inside::TermReading::part_at))]
 fn take_part(
     alloc: Global,
-    depth: u8,
-    left: u32,
+    room: Room,
     stop: Stop,
     tokens: &[TokenAt],
-) -> Result<(Option<(Term, u32)>, &[TokenAt]), Unread>
-    requires { left < 2 ^ 31 }
-    ensures gives { Gives (λ x. (x.0, x.1.now)) result (part_at (term_at file_limits depth) left stop tokens.now) }
-    ensures used { IfOk result (λ x. IfSome x.0 (λ a. (0 < a.1) × (a.1 ≤ left))) }
+) -> Result<(Option<(Term, u32)>, &[TokenAt]), TakeError>
+    requires { room.left < 2 ^ 31 }
+    ensures gives { Returns (λ x. (x.0, x.1.now)) result (part_at (term_at file_limits room.depth) room.left stop tokens.now) }
+    ensures used { IfOk result (λ x. IfSome x.0 (λ a. (0 < a.1) × (a.1 ≤ room.left))) }
 {
     if !is_at_mark(b'(', tokens) {
         return Ok((None, tokens));
     }
-    let (part, used, rest) = take_term(alloc, depth, left, stop, tokens)?;
+    let (part, used, rest) = take_term(alloc, room, stop, tokens)?;
     Ok((Some((part, used)), rest))
 }
 
@@ -198,20 +226,19 @@ fn take_part(
 #[cycle(terms)]
 fn take_parts(
     alloc: Global,
-    depth: u8,
-    left: u32,
+    room: Room,
     stop: Stop,
     tokens: &[TokenAt],
-) -> Result<(ListOf<Term>, u32, &[TokenAt]), Unread>
-    requires { left < 2 ^ 31 }
-    ensures gives { Gives (λ x. ((x.0, x.1), x.2.now)) result (parts_at (term_at file_limits depth) left left stop tokens.now) }
-    ensures used { IfOk result (λ x. x.1 ≤ left) }
+) -> Result<(ListOf<Term>, u32, &[TokenAt]), TakeError>
+    requires { room.left < 2 ^ 31 }
+    ensures gives { Returns (λ x. ((x.0, x.1), x.2.now)) result (parts_at (term_at file_limits room.depth) room.left room.left stop tokens.now) }
+    ensures used { IfOk result (λ x. x.1 ≤ room.left) }
 {
     let mut parts = ListOf::new(alloc);
     let mut used = 0;
     let mut tokens = tokens;
     'parts: loop {
-        match take_part(alloc, depth, left - used, stop, tokens) {
+        match take_part(alloc, room.without(used), stop, tokens) {
             Err(fault) => return Err(fault),
             Ok((part, rest)) => match part {
                 None => return Ok((parts, used, rest)),
@@ -225,27 +252,25 @@ fn take_parts(
     }
 }
 
-/// A term, with at most `depth` brackets inside one another and at most `left` terms in it, and
-/// how many it is made of.
+/// A term within this room, and how many terms it is made of.
 #[cycle(terms)]
-#[tactic(auto, unfolding(crate::specs::TermReading::term_at))]
+#[tactic(auto, unfolding(crate::specs::inside::TermReading::term_at))]
 pub(crate) fn take_term(
     alloc: Global,
-    depth: u8,
-    left: u32,
+    room: Room,
     stop: Stop,
     tokens: &[TokenAt],
-) -> Result<(Term, u32, &[TokenAt]), Unread>
-    requires { left < 2 ^ 31 }
-    ensures gives { Gives (λ x. ((x.0, x.1), x.2.now)) result (term_at file_limits depth left stop tokens.now) }
-    ensures used { IfOk result (λ x. (0 < x.1) × (x.1 ≤ left)) }
+) -> Result<(Term, u32, &[TokenAt]), TakeError>
+    requires { room.left < 2 ^ 31 }
+    ensures gives { Returns (λ x. ((x.0, x.1), x.2.now)) result (term_at file_limits room.depth room.left stop tokens.now) }
+    ensures used { IfOk result (λ x. (0 < x.1) × (x.1 ≤ room.left)) }
 {
-    let rest = match take_open(depth, left, stop, tokens) {
+    let rest = match take_open(room.depth, room.left, stop, tokens) {
         Err(fault) => return Err(fault),
         Ok(rest) => rest,
     };
     let (word, rest) = take_word::<BodyWord>(stop, rest)?;
-    let (term, used, rest) = take_body(alloc, word, depth - 1, left - 1, stop, rest)?;
+    let (term, used, rest) = take_body(alloc, word, room.inside(), stop, rest)?;
     let rest = take_mark(b')', stop, rest)?;
     Ok((term, used, rest))
 }

@@ -6,13 +6,13 @@ use op_keys::Level;
 use term_core::FailKind;
 use value_core::{Fun, Text};
 
-/// What is told by a word.
+/// What a word spells.
 pub trait Keyword: Copy {
     /// What has these letters.
-    ghost told: { List ℕ → Option Self };
+    ghost parsed: { List ℕ → Option Self };
 
-    fn of(name: &Text) -> Option<Self>
-        ensures { result ≡ told name.now };
+    fn parse(name: &Text) -> Option<Self>
+        ensures { result ≡ parsed name.now };
 }
 
 /// What a declaration begins with.
@@ -27,10 +27,10 @@ pub enum DeclWord {
 }
 
 impl Keyword for DeclWord {
-    ghost told = { decl_word };
+    ghost parsed = { decl_word };
 
     #[tactic(auto, unfolding(crate::specs::Words::decl_word))]
-    fn of(name: &Text) -> Option<DeclWord> {
+    fn parse(name: &Text) -> Option<DeclWord> {
         let word = name.as_str();
         if word == "input" {
             Some(DeclWord::Input)
@@ -50,7 +50,7 @@ impl Keyword for DeclWord {
     }
 }
 
-/// What stands before the value of an input.
+/// The word before the value of an input.
 #[derive(Clone, Copy, Debug, PartialEq, Eq)]
 pub enum ValueWord {
     Text,
@@ -59,10 +59,10 @@ pub enum ValueWord {
 }
 
 impl Keyword for ValueWord {
-    ghost told = { value_word };
+    ghost parsed = { value_word };
 
     #[tactic(auto, unfolding(crate::specs::Words::value_word))]
-    fn of(name: &Text) -> Option<ValueWord> {
+    fn parse(name: &Text) -> Option<ValueWord> {
         let word = name.as_str();
         if word == "text" {
             Some(ValueWord::Text)
@@ -84,10 +84,10 @@ pub enum OpWord {
 }
 
 impl Keyword for OpWord {
-    ghost told = { op_word };
+    ghost parsed = { op_word };
 
     #[tactic(auto, unfolding(crate::specs::Words::op_word))]
-    fn of(name: &Text) -> Option<OpWord> {
+    fn parse(name: &Text) -> Option<OpWord> {
         let word = name.as_str();
         if word == "build" {
             Some(OpWord::Build)
@@ -99,7 +99,7 @@ impl Keyword for OpWord {
     }
 }
 
-/// How often a schedule comes.
+/// How often a schedule recurs.
 #[derive(Clone, Copy, Debug, PartialEq, Eq)]
 pub enum PeriodWord {
     Daily,
@@ -107,10 +107,10 @@ pub enum PeriodWord {
 }
 
 impl Keyword for PeriodWord {
-    ghost told = { period_word };
+    ghost parsed = { period_word };
 
     #[tactic(auto, unfolding(crate::specs::Words::period_word))]
-    fn of(name: &Text) -> Option<PeriodWord> {
+    fn parse(name: &Text) -> Option<PeriodWord> {
         let word = name.as_str();
         if word == "daily" {
             Some(PeriodWord::Daily)
@@ -130,10 +130,10 @@ pub enum SideWord {
 }
 
 impl Keyword for SideWord {
-    ghost told = { side_word };
+    ghost parsed = { side_word };
 
     #[tactic(auto, unfolding(crate::specs::Words::side_word))]
-    fn of(name: &Text) -> Option<SideWord> {
+    fn parse(name: &Text) -> Option<SideWord> {
         let word = name.as_str();
         if word == "east" {
             Some(SideWord::East)
@@ -146,10 +146,10 @@ impl Keyword for SideWord {
 }
 
 impl Keyword for Level {
-    ghost told = { level_word };
+    ghost parsed = { level_word };
 
     #[tactic(auto, unfolding(crate::specs::Words::level_word))]
-    fn of(name: &Text) -> Option<Level> {
+    fn parse(name: &Text) -> Option<Level> {
         let word = name.as_str();
         if word == "harmless" {
             Some(Level::Harmless)
@@ -167,7 +167,7 @@ impl Keyword for Level {
     }
 }
 
-/// What a term begins with, behind its bracket.
+/// What a term begins with, after its bracket.
 #[derive(Clone, Copy, Debug, PartialEq, Eq)]
 pub enum BodyWord {
     Return,
@@ -189,10 +189,10 @@ pub enum BodyWord {
 }
 
 impl Keyword for BodyWord {
-    ghost told = { body_word };
+    ghost parsed = { body_word };
 
     #[tactic(auto, unfolding(crate::specs::Words::body_word))]
-    fn of(name: &Text) -> Option<BodyWord> {
+    fn parse(name: &Text) -> Option<BodyWord> {
         let word = name.as_str();
         if word == "return" {
             Some(BodyWord::Return)
@@ -233,10 +233,10 @@ impl Keyword for BodyWord {
 }
 
 impl Keyword for FailKind {
-    ghost told = { kind_word };
+    ghost parsed = { kind_word };
 
     #[tactic(auto, unfolding(crate::specs::Words::kind_word))]
-    fn of(name: &Text) -> Option<FailKind> {
+    fn parse(name: &Text) -> Option<FailKind> {
         let word = name.as_str();
         if word == "text" {
             Some(FailKind::Text)
@@ -253,10 +253,10 @@ impl Keyword for FailKind {
 }
 
 impl Keyword for Fun {
-    ghost told = { fun_word };
+    ghost parsed = { fun_word };
 
     #[tactic(auto, unfolding(crate::specs::Words::fun_word))]
-    fn of(name: &Text) -> Option<Fun> {
+    fn parse(name: &Text) -> Option<Fun> {
         let word = name.as_str();
         if word == "trim" {
             Some(Fun::Trim)

@@ -16,9 +16,9 @@ use Rattle.term_core.specs.declared.program.Program.{Program}
 use Rattle.pipe_text.specs.declared.declaration.Declaration.{Declaration}
 use Rattle.pipe_text.specs.declared.declaration.Declaration.TheVariants as declare
 use Rattle.pipe_text.specs.declared.declaration.InputValue.{InputValue}
-use Rattle.pipe_text.specs.declared.declaration.Where.{Where}
-use Rattle.pipe_text.specs.declared.declaration.Manner.{Manner}
-use Rattle.pipe_text.specs.declared.declaration.Keeping.{Keeping}
+use Rattle.pipe_text.specs.declared.declaration.Placement.{Placement}
+use Rattle.pipe_text.specs.declared.declaration.Settings.{Settings}
+use Rattle.pipe_text.specs.declared.declaration.Retention.{Retention}
 use Rattle.pipe_text.specs.declared.fault.Fault.{Fault}
 use Rattle.pipe_text.specs.declared.fault.Fault.TheVariants.{Lex, Syntax, Limit, Duplicate}
 use Rattle.pipe_text.specs.declared.fault.LimitName.TheVariants as limit
@@ -36,9 +36,9 @@ use Rattle.pipe_text.specs.LimitTable.{number_of}
 use Rattle.pipe_text.specs.Words.{decl_word, value_word, op_word, period_word, side_word, level_word}
 use Rattle.pipe_text.specs.Grammar.{Limits, list_of}
 use Rattle.pipe_text.specs.FileGrammar.{offset_of, op_of}
-use Rattle.pipe_text.specs.Standing.{program_of, count_of, all_terms, has_name, has_pair, limit_of, file_limits}
-use Rattle.pipe_text.specs.Readers.{◌>>=◌, Reader, give, refuse, seq, Choice, branch, unless_ended, mark_at, word_at, keyword_at, if_keyword}
-use Rattle.pipe_text.specs.TermReading.{beyond, name_at, text_at, number_at, command_word_at, texts_at, items_at, term_at}
+use Rattle.pipe_text.specs.Files.{program_of, count_of, all_terms, has_name, has_pair, limit_of, file_limits}
+use Rattle.pipe_text.specs.inside.Readers.{◌>>=◌, Reader, give, refuse, seq, Choice, branch, unless_ended, mark_at, word_at, keyword_at, if_keyword}
+use Rattle.pipe_text.specs.inside.TermReading.{beyond, name_at, text_at, number_at, command_word_at, texts_at, items_at, term_at}
 
 -- All limits of a file: on tokens and lists, on brackets inside one another, on terms, on declarations by their word, and whether a name may be given twice.
 pub record Bounds : Type 0 where
@@ -52,7 +52,7 @@ pub record Bounds : Type 0 where
 abbrev pub file_bounds : Bounds
 file_bounds = record { lim = file_limits; depth = 64; terms = 4096; most = λ w. number_of (limit_of w); twice = false }
 
--- What is known of the declarations before one: the file's version, how many begin with each word, which names and which clients of a pool stand, and how many terms.
+-- What is known of the declarations before one: the file's version, how many begin with each word, which names and which clients of a pool there are, and how many terms.
 pub record Seen : Type 0 where
   pub version : ℕ
   pub count : DeclWord → ℕ
@@ -64,7 +64,7 @@ pub record Seen : Type 0 where
 abbrev pub seen_in : ℕ → List Declaration → Seen
 seen_in version ds = record { version = version; count = λ w. count_of w ds; named = λ w n. list_any (has_name w n) ds; paired = λ n p. list_any (has_pair n p) ds; terms = all_terms ds }
 
--- a new name of a declaration goes on with nothing, where there is room for one more
+-- a new name of a declaration is its own end, if there is room for one more
 abbrev pub declared_choice : Bounds → DeclWord → Seen → Token → Choice (List ℕ)
 declared_choice b w seen (Name n) = if nat_lt (seen.count w) (b.most w) then (if not b.twice && seen.named w n then Err (Duplicate n) else Ok (give n)) else Err (beyond (limit_of w))
 declared_choice b w seen LongName =
@@ -75,7 +75,7 @@ declared_choice b w seen k = Err Syntax
 abbrev pub declared_at : Bounds → DeclWord → Seen → Reader (List ℕ)
 declared_at b w seen = branch (declared_choice b w seen)
 
--- the pool of a client goes on with nothing, where the client isn't one of that pool yet; the client's name is what is given twice
+-- the pool of a client is its own end, if the client isn't one of that pool yet; the client's name is what is given twice
 abbrev pub paired_choice : Bounds → Seen → List ℕ → Token → Choice (List ℕ)
 paired_choice b seen n (Name p) = if not b.twice && seen.paired n p then Err (Duplicate n) else Ok (give p)
 paired_choice b seen n LongName = if b.lim.lifted limit.Name then (if not b.twice && seen.paired n [] then Err (Duplicate n) else Ok (give [])) else Err (beyond limit.Name)
@@ -85,7 +85,7 @@ paired_choice b seen n k = Err Syntax
 abbrev pub paired_at : Bounds → Seen → List ℕ → Reader (List ℕ)
 paired_at b seen n = branch (paired_choice b seen n)
 
--- any number goes on with nothing
+-- any number is its own end
 abbrev pub any_number_choice : Token → Choice ℕ
 any_number_choice (Number n) = Ok (give n)
 any_number_choice k = Err Syntax
@@ -94,68 +94,68 @@ any_number_choice k = Err Syntax
 abbrev pub any_number_at : Reader ℕ
 any_number_at = branch any_number_choice
 
--- the string behind a word that may be left out
+-- the string after a word that may be left out
 abbrev pub optional_text_at : Limits → List ℕ → Reader (Option (List ℕ))
 optional_text_at lim letters = if_keyword letters (seq (text_at lim) (λ t. give (Some t))) (give None)
 
--- whether a word stands there
+-- whether a word is next
 abbrev pub flag_at : List ℕ → Reader Bool
 flag_at letters = if_keyword letters (give true) (give false)
 
--- the value of an input, behind the word before it
-abbrev pub value_behind : Limits → ValueWord → Reader InputValue
-value_behind lim form.Text = seq (text_at lim) (λ t. seq (optional_text_at lim (codes "watch")) (λ w. give (record { value = value.Words t; watch = w })))
-value_behind lim form.Num = seq any_number_at (λ n. give (record { value = value.Num n; watch = None }))
-value_behind lim form.List = seq (mark_at 91) (λ u. seq (items_at lim) (λ ts. give (record { value = list_of ts; watch = None })))
+-- the value of an input, after the word before it
+abbrev pub value_after : Limits → ValueWord → Reader InputValue
+value_after lim form.Text = seq (text_at lim) (λ t. seq (optional_text_at lim (codes "watch")) (λ w. give (record { value = value.Words t; watch = w })))
+value_after lim form.Num = seq any_number_at (λ n. give (record { value = value.Num n; watch = None }))
+value_after lim form.List = seq (mark_at 91) (λ u. seq (items_at lim) (λ ts. give (record { value = list_of ts; watch = None })))
 
--- the value of an input, behind its name
+-- the value of an input, after its name
 unfoldable pub value_at : Limits → Reader InputValue
-value_at lim = seq (word_at value_word) (λ w. value_behind lim w)
+value_at lim = seq (word_at value_word) (λ w. value_after lim w)
 
--- where an operation's orders go, and what they cost
-unfoldable pub where_at : Limits → Reader Where
-where_at lim = seq (keyword_at (codes "pool")) (λ u. seq (name_at lim) (λ p. seq (keyword_at (codes "client")) (λ v. seq (name_at lim) (λ c. seq (keyword_at (codes "cost")) (λ w.
+-- the pool and client of an operation's orders, and what they cost
+unfoldable pub placement_at : Limits → Reader Placement
+placement_at lim = seq (keyword_at (codes "pool")) (λ u. seq (name_at lim) (λ p. seq (keyword_at (codes "client")) (λ v. seq (name_at lim) (λ c. seq (keyword_at (codes "cost")) (λ w.
     seq (number_at lim limit.Cost) (λ m. seq (number_at lim limit.Cost) (λ n. give (record { pool = p; client = c; full = m; cached = n }))))))))
 
--- the level, which is average where none stands there
+-- the level, which is average if none is next
 abbrev pub level_at : Reader Level
 level_at = if_keyword (codes "level") (word_at level_word) (give level.Average)
 
 -- the settings of each operation
-unfoldable pub manner_at : Limits → Reader Manner
-manner_at lim = seq (optional_text_at lim (codes "hint")) (λ h. seq (flag_at (codes "urgent")) (λ u. seq level_at (λ l. give (record { hint = h; urgent = u; level = l }))))
+unfoldable pub settings_at : Limits → Reader Settings
+settings_at lim = seq (optional_text_at lim (codes "hint")) (λ h. seq (flag_at (codes "urgent")) (λ u. seq level_at (λ l. give (record { hint = h; urgent = u; level = l }))))
 
 -- the side and the minutes of an offset
 abbrev pub offset_at : Limits → Reader ℤ
 offset_at lim = seq (word_at side_word) (λ s. seq (number_at lim limit.Offset) (λ n. give (offset_of s n)))
 
--- a schedule, behind its period
-abbrev pub period_behind : Limits → PeriodWord → Reader Expiry
-period_behind lim period.Daily = seq (number_at lim limit.Minute) (λ m. seq (offset_at lim) (λ o. give (Daily m o)))
-period_behind lim period.Monthly = seq (number_at lim limit.Day) (λ d. seq (number_at lim limit.Minute) (λ m. seq (offset_at lim) (λ o. give (Monthly d m o))))
+-- a schedule, after its period
+abbrev pub period_after : Limits → PeriodWord → Reader Expiry
+period_after lim period.Daily = seq (number_at lim limit.Minute) (λ m. seq (offset_at lim) (λ o. give (Daily m o)))
+period_after lim period.Monthly = seq (number_at lim limit.Day) (λ d. seq (number_at lim limit.Minute) (λ m. seq (offset_at lim) (λ o. give (Monthly d m o))))
 
--- a schedule, behind its word
+-- a schedule, after its word
 unfoldable pub schedule_at : Limits → Reader Expiry
-schedule_at lim = seq (word_at period_word) (λ w. period_behind lim w)
+schedule_at lim = seq (word_at period_word) (λ w. period_after lim w)
 
 -- when a result is looked for anew; a file of version 1 has no schedules
 unfoldable pub expiry_at : Limits → ℕ → Reader Expiry
 expiry_at lim version = if_keyword (codes "valid_for") (seq (number_at lim limit.ValidFor) (λ n. give (After n))) (if version == 2 then if_keyword (codes "schedule") (schedule_at lim) (give Never) else give Never)
 
 -- how long results are kept, which an output doesn't say
-unfoldable pub keeping_at : Limits → ℕ → OpWord → Reader Keeping
-keeping_at lim version op.Build = seq (expiry_at lim version) (λ e. seq (flag_at (codes "latched")) (λ l. give (record { expiry = e; latched = l })))
-keeping_at lim version op.Output = give (record { expiry = Never; latched = false })
+unfoldable pub retention_at : Limits → ℕ → OpWord → Reader Retention
+retention_at lim version op.Build = seq (expiry_at lim version) (λ e. seq (flag_at (codes "latched")) (λ l. give (record { expiry = e; latched = l })))
+retention_at lim version op.Output = give (record { expiry = Never; latched = false })
 
 -- the words of a command
 unfoldable pub run_at : Limits → Reader (List (List ℕ))
 run_at lim = seq (keyword_at (codes "run")) (λ u. seq (text_at lim) (λ t. seq (texts_at (command_word_at lim) lim.more_words) (λ ts. give (t ∷ ts))))
 
--- an operation behind its kind
+-- an operation after its kind
 unfoldable pub op_at : Limits → ℕ → List ℕ → OpWord → Reader OpDecl
-op_at lim version n w = seq (where_at lim) (λ p. seq (manner_at lim) (λ m. seq (keeping_at lim version w) (λ k. seq (flag_at (codes "no_cancel")) (λ c. seq (run_at lim) (λ ws. give (op_of n w p m k c ws))))))
+op_at lim version n w = seq (placement_at lim) (λ p. seq (settings_at lim) (λ m. seq (retention_at lim version w) (λ k. seq (flag_at (codes "no_cancel")) (λ c. seq (run_at lim) (λ ws. give (op_of n w p m k c ws))))))
 
--- a declaration behind its word, with what is known of those before it
+-- a declaration after its word, with what is known of those before it
 unfoldable pub rest_at : Bounds → Seen → DeclWord → Reader Declaration
 rest_at b seen decl.Input = seq (declared_at b decl.Input seen) (λ n. seq (value_at b.lim) (λ v. give (declare.Input (record { name = n; value = v.value; watch = v.watch }))))
 rest_at b seen decl.Pool = seq (declared_at b decl.Pool seen) (λ n. seq (keyword_at (codes "hold")) (λ u. seq (number_at b.lim limit.Hold) (λ h. give (declare.Pool (record { name = n; hold = h })))))
@@ -168,16 +168,16 @@ rest_at b seen decl.Node = seq (declared_at b decl.Node seen) (λ n. seq (term_a
 unfoldable pub decl_at : Bounds → Seen → Reader Declaration
 decl_at b seen = seq (word_at decl_word) (rest_at b seen)
 
--- declarations up to the end of the file, behind these, where at most so many tokens are left
+-- declarations up to the end of the file, after these, if at most so many tokens are left
 unfoldable pub decls_at : Bounds → ℕ → ℕ → List Declaration → Reader (List Declaration)
 decls_at b version zero before = unless_ended before refuse
 decls_at b version (suc n) before = unless_ended before (seq (decl_at b (seen_in version before)) (λ d. decls_at b version n (before ++ d ∷ [])))
 
--- all declarations up to the end of the file, behind these
+-- all declarations up to the end of the file, after these
 unfoldable pub all_at : Bounds → ℕ → List Declaration → Reader (List Declaration)
 all_at b version before s ts = decls_at b version (length ts) before s ts
 
--- a version goes on with nothing
+-- a version is its own end
 abbrev pub version_choice : Token → Choice ℕ
 version_choice (Number n) = if n == 1 then Ok (give 1) else (if n == 2 then Ok (give 2) else Err Syntax)
 version_choice k = Err Syntax
@@ -201,27 +201,27 @@ read_of bytes =
     else program_at file_bounds (lexed bytes).stop (lexed bytes).tokens
 
 -- a fault as the caller sees it
-abbrev pub told : Fault → ReadFault
-told (Lex p) = fault.Lex p
-told (Syntax p) = fault.Syntax p
-told (Limit what n p) = fault.Limit what n p
-told (Duplicate n p) = fault.Duplicate n p
+abbrev pub reported : Fault → ReadFault
+reported (Lex p) = fault.Lex p
+reported (Syntax p) = fault.Syntax p
+reported (Limit what n p) = fault.Limit what n p
+reported (Duplicate n p) = fault.Duplicate n p
 
 -- what was read, as the caller sees it
-abbrev pub told_of : Result Program Fault → Result Program ReadFault
-told_of (Ok p) = Ok p
-told_of (Err f) = Err (told f)
+abbrev pub reported_of : Result Program Fault → Result Program ReadFault
+reported_of (Ok p) = Ok p
+reported_of (Err f) = Err (reported f)
 
 -- the program of a file's bytes, or the first fault
 unfoldable pub pipeline_of : List ℕ → Result Program ReadFault
-pipeline_of bytes = told_of (read_of bytes)
+pipeline_of bytes = reported_of (read_of bytes)
 
--- what failed is the first fault, unless memory ran out
+-- what failed is the first fault, or out of memory
 abbrev pub FailsRead : ReadFault → Result Program ReadFault → Type 0
 FailsRead fault.NoMemory read = Unit {0}
 FailsRead f read = read ≡ Err f
 
--- what was returned is what the bytes are read as, unless memory ran out
-abbrev pub GivesRead : Result Program ReadFault → Result Program ReadFault → Type 0
-GivesRead (Ok p) read = read ≡ Ok p
-GivesRead (Err f) read = FailsRead f read
+-- what was returned is what the bytes are read as, or out of memory
+abbrev pub ReturnsRead : Result Program ReadFault → Result Program ReadFault → Type 0
+ReturnsRead (Ok p) read = read ≡ Ok p
+ReturnsRead (Err f) read = FailsRead f read

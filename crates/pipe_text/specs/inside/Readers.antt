@@ -8,30 +8,30 @@ use Rattle.value_core.specs.declared.lexing.Stop.{Stop}
 use Rattle.value_core.specs.declared.lexing.Stop.TheVariants as stop
 use Rattle.pipe_text.specs.declared.fault.Fault.{Fault}
 use Rattle.pipe_text.specs.declared.fault.Fault.TheVariants.{Lex, Syntax}
-use Rattle.pipe_text.specs.declared.fault.Unread.{Unread}
-use Rattle.pipe_text.specs.declared.fault.Unread.TheVariants.{NoMemory, At}
+use Rattle.pipe_text.specs.declared.fault.TakeError.{TakeError}
+use Rattle.pipe_text.specs.declared.fault.TakeError.TheVariants.{NoMemory, At}
 
 infixl 10 ◌>>=◌
--- what comes of a value, or the fault as it is
+-- the next reader over a value, or the fault as it is
 abbrev pub ◌>>=◌ : {A B : Type 0} → Result A Fault → (A → Result B Fault) → Result B Fault
 (Ok x) >>= f = f x
 (Err e) >>= f = Err e
 
--- what failed is what reading gives, unless memory ran out
-abbrev pub Fails : {Y : Type 0} → Unread → Result Y Fault → Type 0
+-- what failed is what reading returns, or out of memory
+abbrev pub Fails : {Y : Type 0} → TakeError → Result Y Fault → Type 0
 Fails NoMemory read = Unit {0}
 Fails (At f) read = read ≡ Err f
 
--- what a function returned, seen by view, is what reading gives, unless memory ran out
-abbrev pub Gives : {X Y : Type 0} → (X → Y) → Result X Unread → Result Y Fault → Type 0
-Gives view (Ok x) read = read ≡ Ok (view x)
-Gives view (Err e) read = Fails e read
+-- what a function returned, seen by view, is what reading returns, or out of memory
+abbrev pub Returns : {X Y : Type 0} → (X → Y) → Result X TakeError → Result Y Fault → Type 0
+Returns view (Ok x) read = read ≡ Ok (view x)
+Returns view (Err e) read = Fails e read
 
 -- A reader takes a value from the front of the tokens. Where they stop there is one fault.
 abbrev pub Reader : Type 0 → Type 0
 Reader A = Stop → List TokenAt → Result (A × List TokenAt) Fault
 
--- the fault where a token is wanted and the tokens stop
+-- the fault if a token is wanted and the tokens stop
 abbrev pub fault_of : Stop → Fault
 fault_of (stop.Lex offset) = Lex offset
 fault_of (stop.End offset) = Syntax offset
@@ -53,7 +53,7 @@ refuse s ts = Err (fault_of s)
 abbrev pub seq : {A B : Type 0} → Reader A → (A → Reader B) → Reader B
 seq r f s ts = r s ts >>= λ x. f x.0 s x.1
 
--- how it goes on behind a token, or the fault at that token's offset
+-- the reader after a token, or the fault at that token's offset
 abbrev pub Choice : Type 0 → Type 0
 Choice A = Result (Reader A) (ℕ → Fault)
 
@@ -75,13 +75,13 @@ next_passes test (t ∷ ts) = test t.token
 abbrev pub peek : {A : Type 0} → (Token → Bool) → Reader A → Reader A → Reader A
 peek test r q s ts = if next_passes test ts then r s ts else q s ts
 
--- the value where the file ends, or a reader where a token is left
+-- the value if the file ends, or a reader if a token is left
 abbrev pub unless_ended : {A : Type 0} → A → Reader A → Reader A
 unless_ended a r (stop.Lex offset) [] = Err (Lex offset)
 unless_ended a r (stop.End offset) [] = Ok (a, [])
 unless_ended a r s (t ∷ ts) = r s (t ∷ ts)
 
--- this mark goes on with nothing
+-- this mark is its own end
 abbrev pub mark_choice : ℕ → Token → Choice (Unit {0})
 mark_choice c (Mark m) = if m == c then Ok (give tt) else Err Syntax
 mark_choice c k = Err Syntax
@@ -90,7 +90,7 @@ mark_choice c k = Err Syntax
 abbrev pub mark_at : ℕ → Reader (Unit {0})
 mark_at c = branch (mark_choice c)
 
--- how it goes on behind a word that was looked up
+-- the reader after a word that was looked up
 abbrev pub chosen : {W A : Type 0} → (W → Choice A) → Option W → Choice A
 chosen f None = Err Syntax
 chosen f (Some w) = f w
@@ -123,6 +123,6 @@ is_string (Words t) = true
 is_string LongText = true
 is_string k = false
 
--- a reader behind a keyword where that stands there, else another
+-- a reader after a keyword if that is next, else another
 abbrev pub if_keyword : {A : Type 0} → List ℕ → Reader A → Reader A → Reader A
 if_keyword letters r q = peek (is_keyword letters) (seq (keyword_at letters) (λ u. r)) q

@@ -17,13 +17,13 @@ use Rattle.pipe_text.specs.declared.fault.LimitName.TheVariants as limit
 use Rattle.pipe_text.specs.LimitTable.{number_of}
 use Rattle.pipe_text.specs.Words.{body_word, fun_word, kind_word}
 use Rattle.pipe_text.specs.Grammar.{Limits, list_of, is_within}
-use Rattle.pipe_text.specs.Readers.{◌>>=◌, Reader, give, seq, Choice, branch, peek, mark_at, chosen, word_at, only, is_string}
+use Rattle.pipe_text.specs.inside.Readers.{◌>>=◌, Reader, give, seq, Choice, branch, peek, mark_at, chosen, word_at, only, is_string}
 
 -- the fault at an offset of a token that goes beyond a limit
 abbrev pub beyond : LimitName → ℕ → Fault
 beyond what = Limit what (number_of what)
 
--- a name goes on with nothing
+-- a name is its own end
 abbrev pub name_choice : Limits → Token → Choice (List ℕ)
 name_choice lim (Name n) = Ok (give n)
 name_choice lim LongName = if lim.lifted limit.Name then Ok (give []) else Err (beyond limit.Name)
@@ -33,7 +33,7 @@ name_choice lim k = Err Syntax
 abbrev pub name_at : Limits → Reader (List ℕ)
 name_at lim = branch (name_choice lim)
 
--- a string goes on with nothing
+-- a string is its own end
 abbrev pub text_choice : Limits → Token → Choice (List ℕ)
 text_choice lim (Words t) = Ok (give t)
 text_choice lim LongText = if lim.lifted limit.Text then Ok (give []) else Err (beyond limit.Text)
@@ -43,7 +43,7 @@ text_choice lim k = Err Syntax
 abbrev pub text_at : Limits → Reader (List ℕ)
 text_at lim = branch (text_choice lim)
 
--- a number within the limit of this name goes on with nothing
+-- a number within the limit of this name is its own end
 abbrev pub number_choice : Limits → LimitName → Token → Choice ℕ
 number_choice lim what (Number n) = if is_within lim what n then Ok (give n) else Err (beyond what)
 number_choice lim what k = Err Syntax
@@ -52,7 +52,7 @@ number_choice lim what k = Err Syntax
 abbrev pub number_at : Limits → LimitName → Reader ℕ
 number_at lim what = branch (number_choice lim what)
 
--- a string goes on with nothing, where there is room for so many more under the limit of this name
+-- a string is its own end, if there is room for so many more under the limit of this name
 abbrev pub room_choice : Limits → LimitName → ℕ → Token → Choice (List ℕ)
 room_choice lim what room (Words t) = if room == 0 then Err (beyond what) else Ok (give t)
 room_choice lim what room LongText = if lim.lifted limit.Text then (if room == 0 then Err (beyond what) else Ok (give [])) else Err (beyond limit.Text)
@@ -62,7 +62,7 @@ room_choice lim what room k = Err Syntax
 abbrev pub room_at : Limits → LimitName → ℕ → Reader (List ℕ)
 room_at lim what room = branch (room_choice lim what room)
 
--- behind a text of a list, with room for so many more: the closing bracket, or one more text behind a comma
+-- after a text of a list, with room for so many more: the closing bracket, or one more text after a comma
 abbrev pub item_choice : Limits → ℕ → Token → Choice (Option (List ℕ))
 item_choice lim room (Mark m) = if m == 93 then Ok (give None) else (if m == 44 then Ok (seq (room_at lim limit.List room) (λ t. give (Some t))) else Err Syntax)
 item_choice lim room k = Err Syntax
@@ -71,11 +71,11 @@ item_choice lim room k = Err Syntax
 unfoldable pub item_at : Limits → ℕ → Reader (Option (List ℕ))
 item_at lim room = branch (item_choice lim room)
 
--- one more word of a command, where a string stands there
+-- one more word of a command, if a string is next
 unfoldable pub command_word_at : Limits → ℕ → Reader (Option (List ℕ))
 command_word_at lim room = peek is_string (seq (room_at lim limit.Words room) (λ t. give (Some t))) (give None)
 
--- no more texts, or what is read behind one more
+-- no more texts, or what is read after one more
 abbrev pub with_text_read : Option (List ℕ) → Reader (List (List ℕ)) → Reader (List (List ℕ))
 with_text_read None r = give []
 with_text_read (Some t) r = seq r (λ ts. give (t ∷ ts))
@@ -85,11 +85,11 @@ unfoldable pub texts_at : (ℕ → Reader (Option (List ℕ))) → ℕ → Reade
 texts_at reads zero = seq (reads 0) (λ o. with_text_read o (give []))
 texts_at reads (suc room) = seq (reads (suc room)) (λ o. with_text_read o (texts_at reads room))
 
--- a list behind its opening bracket
+-- a list after its opening bracket
 unfoldable pub items_at : Limits → Reader (List (List ℕ))
 items_at lim = peek (is_mark_of 93) (seq (mark_at 93) (λ u. give [])) (seq (text_at lim) (λ t. seq (texts_at (item_at lim) lim.more_items) (λ ts. give (t ∷ ts))))
 
--- a literal goes on with nothing, a list behind its opening bracket
+-- a literal is its own end, but a list continues after its opening bracket
 abbrev pub literal_choice : Limits → Token → Choice Value
 literal_choice lim (Words t) = Ok (give (value.Words t))
 literal_choice lim LongText = if lim.lifted limit.Text then Ok (give (value.Words [])) else Err (beyond limit.Text)
@@ -106,7 +106,7 @@ literal_at lim = branch (literal_choice lim)
 abbrev pub Counted : Type 0
 Counted = Term × ℕ
 
--- the opening bracket goes on with nothing, where there is room for d brackets and n terms
+-- the opening bracket is its own end, if there is room for d brackets and n terms
 abbrev pub open_choice : ℕ → ℕ → Token → Choice (Unit {0})
 open_choice d n (Mark m) = if m == 40 then (if n == 0 then Err (beyond limit.Terms) else (if d == 0 then Err (beyond limit.Depth) else Ok (give tt))) else Err Syntax
 open_choice d n k = Err Syntax
@@ -119,11 +119,11 @@ open_at d n = branch (open_choice d n)
 unfoldable pub two_at : (ℕ → Reader Counted) → ℕ → Reader ((Term × Term) × ℕ)
 two_at reads n = seq (reads n) (λ a. seq (reads (n - a.1)) (λ b. give ((a.0, b.0), a.1 + b.1)))
 
--- one more term, where an opening bracket stands there
+-- one more term, if an opening bracket is next
 unfoldable pub part_at : (ℕ → Reader Counted) → ℕ → Reader (Option Counted)
 part_at reads n = peek (is_mark_of 40) (seq (reads n) (λ a. give (Some a))) (give None)
 
--- no more terms, or what is read behind one more
+-- no more terms, or what is read after one more
 abbrev pub with_part : Option Counted → (ℕ → Reader (List Term × ℕ)) → Reader (List Term × ℕ)
 with_part None r = give ([], 0)
 with_part (Some a) r = seq (r a.1) (λ x. give (a.0 ∷ x.0, a.1 + x.1))
@@ -133,7 +133,7 @@ unfoldable pub parts_at : (ℕ → Reader Counted) → ℕ → ℕ → Reader (L
 parts_at reads zero n = seq (part_at reads n) (λ o. with_part o (λ used. give ([], 0)))
 parts_at reads (suc m) n = seq (part_at reads n) (λ o. with_part o (λ used. parts_at reads m (n - used)))
 
--- what stands behind the word, with room for n terms, by what reads one with room for so many
+-- the part of a term after its word, with room for n terms, by what reads one with room for so many
 unfoldable pub body_at : Limits → (ℕ → Reader Counted) → ℕ → BodyWord → Reader Counted
 body_at lim reads n word.Return = seq (literal_at lim) (λ v. give (term.Return v, 1))
 body_at lim reads n word.Fail = seq (word_at kind_word) (λ f. seq (text_at lim) (λ t. give (term.Fail f t, 1)))
@@ -158,9 +158,9 @@ term_at lim zero n = seq (open_at 0 n) (λ u. give (term.All [], 1))
 term_at lim (suc d) n = seq (open_at (suc d) n) (λ u. seq (word_at body_word) (λ w. seq (body_at lim (term_at lim d) (n - 1) w) (λ x. seq (mark_at 41) (λ v. give x))))
 
 -- values of the texts that were read before, in front of those that are read
-abbrev pub behind : {V : Type 0} → (List ℕ → V) → List V → Result (List (List ℕ) × List TokenAt) Fault → Result (List V × List TokenAt) Fault
-behind f before read = read >>= λ x. Ok (before ++ map f x.0, x.1)
+abbrev pub following : {V : Type 0} → (List ℕ → V) → List V → Result (List (List ℕ) × List TokenAt) Fault → Result (List V × List TokenAt) Fault
+following f before read = read >>= λ x. Ok (before ++ map f x.0, x.1)
 
 -- the terms that were read before, in front of those that are read
-abbrev pub behind_parts : List Term → ℕ → Result ((List Term × ℕ) × List TokenAt) Fault → Result ((List Term × ℕ) × List TokenAt) Fault
-behind_parts before used read = read >>= λ x. Ok ((before ++ x.0.0, used + x.0.1), x.1)
+abbrev pub following_parts : List Term → ℕ → Result ((List Term × ℕ) × List TokenAt) Fault → Result ((List Term × ℕ) × List TokenAt) Fault
+following_parts before used read = read >>= λ x. Ok ((before ++ x.0.0, used + x.0.1), x.1)

@@ -1,19 +1,19 @@
 use Rattle.std.proofs.Common.{sym, ◌∙◌, refl, subst}
 use Rattle.value_core.specs.declared.value.Value.TheVariants as value
-use Rattle.pipe_text.specs.Standing.{file_limits}
-use Rattle.pipe_text.specs.Readers.{Fails}
-use Rattle.pipe_text.specs.TermReading.{item_at}
-use Rattle.pipe_text.proofs.Loops.{behind_more, behind_end, behind_err}
+use Rattle.pipe_text.specs.Files.{file_limits}
+use Rattle.pipe_text.specs.inside.Readers.{Fails}
+use Rattle.pipe_text.specs.inside.TermReading.{item_at}
+use Rattle.pipe_text.proofs.Loops.{following_more, following_end, following_err}
 use Rattle.pipe_text.proofs.literals.take_more_items.Goals as goal
 
 pub more-init : goal.more-init
 more-init c = rw (c.in_ok-push.ensures.ok, c.new-items.ensures, c.number-room.ensures) refl
 
 pub returns-in-Err : goal.returns-in-Err
-returns-in-Err c = subst (Fails c.in-Err.fault) c.more.invariant (behind_err value.Words (item_at file_limits) c.more.room c.args.stop c.more.tokens.now c.more.items c.in-Err.fault c.in-Err.ensures.gives)
+returns-in-Err c = subst (Fails c.in-Err.fault) c.more.invariant (following_err value.Words (item_at file_limits) c.more.room c.args.stop c.more.tokens.now c.more.items c.in-Err.fault c.in-Err.ensures.gives)
 
 pub returns-in-None : goal.returns-in-None
-returns-in-None c = sym c.more.invariant ∙ behind_end value.Words (item_at file_limits) c.more.room c.args.stop c.more.tokens.now c.in-Ok.rest.now c.more.items (rw c.in-None.is at c.in-Ok.ensures.gives)
+returns-in-None c = sym c.more.invariant ∙ following_end value.Words (item_at file_limits) c.more.room c.args.stop c.more.tokens.now c.in-Ok.rest.now c.more.items (rw c.in-None.is at c.in-Ok.ensures.gives)
 
 pub more-preserved : goal.more-preserved
-more-preserved c = rw c.in_ok-push-in-Some.ensures.ok (sym (behind_more value.Words (item_at file_limits) c.more.room c.args.stop c.more.tokens.now c.in-Ok.rest.now c.in-Some.text c.more.items (rw c.in-Some.is at c.in-Ok.ensures.room) (rw c.in-Some.is at c.in-Ok.ensures.gives)) ∙ c.more.invariant)
+more-preserved c = rw c.in_ok-push-in-Some.ensures.ok (sym (following_more value.Words (item_at file_limits) c.more.room c.args.stop c.more.tokens.now c.in-Ok.rest.now c.in-Some.text c.more.items (rw c.in-Some.is at c.in-Ok.ensures.room) (rw c.in-Some.is at c.in-Ok.ensures.gives)) ∙ c.more.invariant)

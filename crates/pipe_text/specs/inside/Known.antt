@@ -12,8 +12,8 @@ use Rattle.pipe_text.specs.declared.declarations.Declarations.{Declarations}
 use Rattle.pipe_text.specs.declared.names.Names.{Names}
 use Rattle.pipe_text.specs.declared.words.DeclWord.{DeclWord}
 use Rattle.pipe_text.specs.declared.words.DeclWord.TheVariants as decl
-use Rattle.pipe_text.specs.Standing.{program_of, all_terms, has_name}
-use Rattle.pipe_text.specs.FileReading.{Seen}
+use Rattle.pipe_text.specs.Files.{program_of, all_terms, has_name}
+use Rattle.pipe_text.specs.inside.FileReading.{Seen}
 
 -- how many declarations of a program begin with this word
 abbrev pub count_in : Program → DeclWord → ℕ
@@ -24,16 +24,16 @@ count_in p decl.Worker = length p.workers
 count_in p decl.Op = length p.ops
 count_in p decl.Node = length p.nodes
 
--- whether the set of a kind has this name; clients are told by their pool too
+-- whether the set of a kind has this name; clients are identified by their pool too
 abbrev pub named_in : Names → DeclWord → List ℕ → Bool
-named_in it decl.Input n = contains (slice_cmp nat_cmp) it.inputs n
-named_in it decl.Pool n = contains (slice_cmp nat_cmp) it.pools n
-named_in it decl.Client n = false
-named_in it decl.Worker n = contains (slice_cmp nat_cmp) it.workers n
-named_in it decl.Op n = contains (slice_cmp nat_cmp) it.ops n
-named_in it decl.Node n = contains (slice_cmp nat_cmp) it.nodes n
+named_in so_far decl.Input n = contains (slice_cmp nat_cmp) so_far.inputs n
+named_in so_far decl.Pool n = contains (slice_cmp nat_cmp) so_far.pools n
+named_in so_far decl.Client n = false
+named_in so_far decl.Worker n = contains (slice_cmp nat_cmp) so_far.workers n
+named_in so_far decl.Op n = contains (slice_cmp nat_cmp) so_far.ops n
+named_in so_far decl.Node n = contains (slice_cmp nat_cmp) so_far.nodes n
 
--- whether a name m behind one word is a name n behind another
+-- whether a name m after one word is a name n after another
 abbrev pub is_named : DeclWord → List ℕ → DeclWord → List ℕ → Bool
 is_named decl.Input m decl.Input n = bytes_eq m n
 is_named decl.Pool m decl.Pool n = bytes_eq m n
@@ -42,13 +42,13 @@ is_named decl.Op m decl.Op n = bytes_eq m n
 is_named decl.Node m decl.Node n = bytes_eq m n
 is_named v m w n = false
 
--- whether this client of this pool stands in a program
+-- whether a program has this client of this pool
 abbrev pub paired_in : Program → List ℕ → List ℕ → Bool
 paired_in p n q = list_any (λ c. bytes_eq c.name n && bytes_eq c.pool q) p.clients
 
 -- what is known of them
 abbrev pub seen_of : Declarations → Seen
-seen_of it = record { version = it.program.version; count = count_in it.program; named = named_in it.names; paired = paired_in it.program; terms = it.terms }
+seen_of so_far = record { version = so_far.program.version; count = count_in so_far.program; named = named_in so_far.names; paired = paired_in so_far.program; terms = so_far.terms }
 
 -- the word that a declaration begins with
 abbrev pub word_of : Declaration → DeclWord
@@ -78,8 +78,8 @@ with_declaration p (Op d) = record { version = p.version; inputs = p.inputs; poo
 with_declaration p (Node d n) = record { version = p.version; inputs = p.inputs; pools = p.pools; clients = p.clients; workers = p.workers; ops = p.ops; nodes = p.nodes ++ d ∷ [] }
 
 -- the program has these declarations, and the sets their names
-pub record Knows (version : ℕ) (before : List Declaration) (it : Declarations) : Type 0 where
-  pub program : it.program ≡ program_of version before
-  pub names : (w : DeclWord) (n : List ℕ) → named_in it.names w n ≡ list_any (has_name w n) before
-  pub terms : it.terms ≡ all_terms before
-  pub few : it.terms ≤ 4096
+pub record Knows (version : ℕ) (before : List Declaration) (so_far : Declarations) : Type 0 where
+  pub program : so_far.program ≡ program_of version before
+  pub names : (w : DeclWord) (n : List ℕ) → named_in so_far.names w n ≡ list_any (has_name w n) before
+  pub terms : so_far.terms ≡ all_terms before
+  pub few : so_far.terms ≤ 4096

@@ -1,4 +1,4 @@
--- What a first fault is.
+-- What the first fault of a file is.
 use Rattle.std.specs.Prelude.{◌≡◌, ℕ, ◌<◌, ◌≤◌, ◌⊎◌, true, false, List, [], ◌∷◌, ◌++◌, length}
 use Rattle.std.specs.List.{IsDistinct, list_any}
 use Rattle.value_core.specs.declared.token.Token.{Token}
@@ -20,9 +20,9 @@ use Rattle.pipe_text.specs.declared.words.DeclWord.TheVariants as decl
 use Rattle.pipe_text.specs.LimitTable.{number_of}
 use Rattle.pipe_text.specs.Words.{decl_letters}
 use Rattle.pipe_text.specs.FileGrammar.{FileSpells}
-use Rattle.pipe_text.specs.Standing.{all_terms, count_of, has_name, has_pair, same_name, file_limits}
-use Rattle.pipe_text.specs.Readers.{fault_of}
-use Rattle.pipe_text.specs.FileReading.{Bounds, file_bounds}
+use Rattle.pipe_text.specs.Files.{all_terms, count_of, has_name, has_pair, same_name, file_limits}
+use Rattle.pipe_text.specs.inside.Readers.{fault_of}
+use Rattle.pipe_text.specs.inside.FileReading.{Bounds, file_bounds}
 
 -- declarations within the bounds, no two of one kind with one name unless they may
 pub record Sound (b : Bounds) (ds : List Declaration) : Type 0 where
@@ -74,36 +74,36 @@ SameLimit limit.Minute a b = a.lim.lifted limit.Minute ≡ b.lim.lifted limit.Mi
 SameLimit limit.Day a b = a.lim.lifted limit.Day ≡ b.lim.lifted limit.Day
 SameLimit limit.Offset a b = a.lim.lifted limit.Offset ≡ b.lim.lifted limit.Offset
 
--- The fault is at this token, behind the others, and is what it says. At Syntax no file goes on with the token. At a limit files do, but none that keeps this one limit, however wide the others are. At Duplicate files do, but none that has no name twice.
+-- The fault is at this token, after the others, and is true. At Syntax no file continues with the token. At a limit files do, but none that keeps this one limit, however wide the others are. At Duplicate files do, but none that has no name twice.
 abbrev pub RightAt : Bounds → List Token → TokenAt → Fault → Type 0
 RightAt b ks t (Lex p) = ⊥
 RightAt b ks t (Syntax p) = (p ≡ t.offset) × Begins IsFile ks × ((f : File) (more : List Token) → IsFile f (ks ++ t.token ∷ more) → ⊥)
 RightAt b ks t (Limit what n p) = (p ≡ t.offset) × (n ≡ number_of what) × GoesOn IsFile (ks ++ t.token ∷ []) × ((f : File) (more : List Token) (c : Bounds) → SameLimit what b c → FileIs c f (ks ++ t.token ∷ more) → ⊥)
 RightAt b ks t (Duplicate n p) = (p ≡ t.offset) × GoesOn IsFile (ks ++ t.token ∷ []) × ((f : File) (more : List Token) (c : Bounds) → b.twice ≡ c.twice → FileIs c f (ks ++ t.token ∷ more) → ⊥)
 
--- Where the tokens stop, some file begins with them and has more; where the bytes end there, no file has just these.
+-- If the tokens stop, some file begins with them and has more; if they stop at the end of the bytes, no file has just these.
 abbrev pub RightAtStop : Stop → List Token → Type 0
 RightAtStop (stop.Lex p) ks = Begins IsFile ks
 RightAtStop (stop.End p) ks = Begins IsFile ks × ((f : File) → IsFile f ks → ⊥)
 
--- the fault of these tokens is what it says
+-- the fault of these tokens is true
 abbrev pub IsRight : Bounds → Stop → List TokenAt → Fault → Type 0
 IsRight b s ts f = ((f ≡ fault_of s) × RightAtStop s (tokens_in ts)) ⊎ ((front : List TokenAt) × (t : TokenAt) × (after : List TokenAt) × (ts ≡ front ++ t ∷ after) × RightAt b (tokens_in front) t f)
 
--- The fault of a file's bytes is what it says: they are too many, or it is that of their tokens.
+-- The fault of a file's bytes is true: they are too many, or it is that of their tokens.
 abbrev pub IsRightFault : List ℕ → Fault → Type 0
 IsRightFault bytes f = ((f ≡ Limit limit.File 1048576 0) × (1048576 < length bytes)) ⊎ IsRight file_bounds (lexed bytes).stop (lexed bytes).tokens f
 
--- The declarations have the name n, and a token gives it again, which stands just behind the word of a declaration; for a client the token names its pool, and the client's name stands between.
+-- The declarations have the name n, and a token repeats it, right after the word of a declaration; for a client the token names its pool, after the client's name.
 abbrev pub Again : List Declaration → DeclWord → List Token → Token → List ℕ → Type 0
 Again ds w ks k n = ((ks ≡ []) × (k ≡ Name n) × (list_any (has_name w n) ds ≡ true)) ⊎ ((w ≡ decl.Client) × (q : List ℕ) × (ks ≡ Name n ∷ []) × (k ≡ Name q) × (list_any (has_pair n q) ds ≡ true))
 
--- The token at the offset p gives the name n again: the tokens before are a file whose declarations have it, and the word of one more.
+-- The token at the offset p repeats the name n: the tokens before are a file whose declarations have it, and the word of one more.
 abbrev pub IsNamedAgain : List TokenAt → List ℕ → ℕ → Type 0
 IsNamedAgain ts n p = (front : List TokenAt) × (t : TokenAt) × (after : List TokenAt) × (ts ≡ front ++ t ∷ after) × (p ≡ t.offset) × (version : ℕ) × (ds : List Declaration) × (w : DeclWord) × (k1 k2 : List Token)
     × (tokens_in front ≡ k1 ++ Name (decl_letters w) ∷ k2) × FileSpells file_limits 64 version ds k1 × Again ds w k2 t.token n
 
--- what the caller is told is what it says, unless memory ran out
+-- the fault that the caller sees is true, or out of memory
 abbrev pub IsRightAnswer : List ℕ → ReadFault → Type 0
 IsRightAnswer bytes (fault.Lex p) = IsRightFault bytes (Lex p)
 IsRightAnswer bytes (fault.Syntax p) = IsRightFault bytes (Syntax p)

@@ -1,4 +1,4 @@
--- What the bytes of a file stand for.
+-- Which program the bytes of a file are a file of.
 use Rattle.std.specs.Prelude.{◌≡◌, ℕ, ◌≤◌, ◌+◌, ◌&&◌, Bool, false, List, [], ◌∷◌, length, filter_map, Option, Some, None, Result, Ok, Err}
 use Rattle.std.specs.List.{IsDistinct}
 use Rattle.std.specs.Str.{bytes_eq}
@@ -76,11 +76,11 @@ abbrev pub total : (Declaration → ℕ) → List Declaration → ℕ
 total f [] = 0
 total f (d ∷ ds) = f d + total f ds
 
--- how many terms stand in declarations
+-- how many terms declarations are made of
 abbrev pub all_terms : List Declaration → ℕ
 all_terms = total terms_of
 
--- 1 where a declaration begins with this word, else 0
+-- 1 if a declaration begins with this word, else 0
 abbrev pub one_of : DeclWord → Declaration → ℕ
 one_of decl.Input (Input d) = 1
 one_of decl.Pool (Pool d) = 1
@@ -94,7 +94,7 @@ one_of w d = 0
 abbrev pub count_of : DeclWord → List Declaration → ℕ
 count_of w = total (one_of w)
 
--- whether a declaration begins with this word and has this name; a client is told by its pool too
+-- whether a declaration begins with this word and has this name; a client is identified by its pool too
 abbrev pub has_name : DeclWord → List ℕ → Declaration → Bool
 has_name decl.Input n (Input d) = bytes_eq d.name n
 has_name decl.Pool n (Pool d) = bytes_eq d.name n
@@ -141,18 +141,22 @@ pub record IsSpelled (bytes : List ℕ) (p : Program) : Type 0 where
   pub few_terms : all_terms declarations ≤ 4096
   pub apart : IsDistinct same_name declarations
 
--- The bytes stand for the program: they are not too many, and spell it.
-pub record StandsFor (bytes : List ℕ) (p : Program) : Type 0 where
+-- The bytes are a file of the program: they are not too many, and spell it.
+pub record IsFileOf (bytes : List ℕ) (p : Program) : Type 0 where
   pub few_bytes : length bytes ≤ 1048576
   pub spelling : IsSpelled bytes p
 
--- A program that the grammar can give: some bytes, of whatever number, spell it.
-pub record IsGiven (p : Program) : Type 0 where
+-- A program that the grammar can express: some bytes, of whatever number, spell it.
+pub record HasSpelling (p : Program) : Type 0 where
   pub bytes : List ℕ
   pub spelling : IsSpelled bytes p
 
--- What was read is the program, unless memory ran out: it was not refused.
+-- What was read is the program, or out of memory: the file was not refused.
 abbrev pub Reads : Result Program ReadFault → Program → Type 0
 Reads (Ok q) p = q ≡ p
 Reads (Err NoMemory) p = Unit {0}
 Reads (Err f) p = ⊥
+
+-- Bytes are a file of one program at most.
+abbrev pub OneProgramAtMost : Type 0
+OneProgramAtMost = (bytes : List ℕ) (p q : Program) → IsFileOf bytes p → IsFileOf bytes q → p ≡ q

@@ -1,0 +1,4 @@
+pub mod Readers
+pub mod TermReading
+pub mod FileReading
+pub mod Known
