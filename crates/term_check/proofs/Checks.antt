@@ -10,7 +10,7 @@ use Rattle.term_core.specs.declared.program.Term.TheVariants as term
 use Rattle.term_check.specs.Typing.{Check, all_from, bind_check, build_check, check_step, gate_check, is_list_layer, list_check, map_check, name_fault, outcome_check, output_check, pair_check, parts_check, parts_verdict, verdict_of}
 use Rattle.term_check.specs.Verdicts.{inside, named, nested, sized}
 use Rattle.term_check.specs.declared.fault.CheckWhat.{CheckWhat}
-use Rattle.term_check.specs.declared.verdict.Scope.{Scope}
+use Rattle.term_check.specs.declared.verdict.Position.{Position}
 
 out_at : (x : Term-F Term) (t : Term) → roll-Term x ≡ t → out-Term t ≡ x
 out_at x t e = ap out-Term (sym e) ∙ out-roll-Term x
@@ -56,7 +56,7 @@ list_mapped f (Term-F.Output op k v) = refl
 
 -- ---- the check of a term by its outermost layer
 
-pub verdict_of_is : (p : Program) (earlier : List Kind) (t : Term) (bound : List NamedKind) (s : Scope) →
+pub verdict_of_is : (p : Program) (earlier : List Kind) (t : Term) (bound : List NamedKind) (s : Position) →
     verdict_of p earlier t bound s ≡ named (name_fault p earlier (out-Term t) bound) s.at (nested (is_list_layer (out-Term t)) s (sized s.at (parts_verdict p earlier t bound (inside s))))
 verdict_of_is p earlier t bound s =
     ap (λ (f : Check). f bound s) (fold_out-Term Check (check_step p earlier) t)
@@ -65,39 +65,39 @@ verdict_of_is p earlier t bound s =
 
 -- ---- the check of a term's parts
 
-parts_at : (p : Program) (earlier : List Kind) (x : Term-F Term) (t : Term) → roll-Term x ≡ t → (bound : List NamedKind) (s : Scope) →
+parts_at : (p : Program) (earlier : List Kind) (x : Term-F Term) (t : Term) → roll-Term x ≡ t → (bound : List NamedKind) (s : Position) →
     parts_verdict p earlier t bound s ≡ parts_check p earlier (map-Term Term Check (verdict_of p earlier) x) bound s
 parts_at p earlier x t e bound s = ap (λ (y : Term-F Term). parts_check p earlier (map-Term Term Check (verdict_of p earlier) y) bound s) (out_at x t e)
 
-pub map_parts : (p : Program) (earlier : List Kind) (f : Fun) (t : Term) (bound : List NamedKind) (s : Scope) →
+pub map_parts : (p : Program) (earlier : List Kind) (f : Fun) (t : Term) (bound : List NamedKind) (s : Position) →
     parts_verdict p earlier (term.Map f t) bound s ≡ map_check f (verdict_of p earlier t) bound s
 map_parts p earlier f t bound s = parts_at p earlier (Term-F.Map f t) (term.Map f t) (term.rolls-Map f t) bound s
 
-pub pair_parts : (p : Program) (earlier : List Kind) (a b : Term) (bound : List NamedKind) (s : Scope) →
+pub pair_parts : (p : Program) (earlier : List Kind) (a b : Term) (bound : List NamedKind) (s : Position) →
     parts_verdict p earlier (term.Pair a b) bound s ≡ pair_check (verdict_of p earlier a) (verdict_of p earlier b) bound s
 pair_parts p earlier a b bound s = parts_at p earlier (Term-F.Pair a b) (term.Pair a b) (term.rolls-Pair a b) bound s
 
-pub bind_parts : (p : Program) (earlier : List Kind) (n : List ℕ) (t u : Term) (bound : List NamedKind) (s : Scope) →
+pub bind_parts : (p : Program) (earlier : List Kind) (n : List ℕ) (t u : Term) (bound : List NamedKind) (s : Position) →
     parts_verdict p earlier (term.Bind n t u) bound s ≡ bind_check n (verdict_of p earlier t) (verdict_of p earlier u) bound s
 bind_parts p earlier n t u bound s = parts_at p earlier (Term-F.Bind n t u) (term.Bind n t u) (term.rolls-Bind n t u) bound s
 
-pub list_map_parts : (p : Program) (earlier : List Kind) (n : List ℕ) (t u : Term) (bound : List NamedKind) (s : Scope) →
+pub list_map_parts : (p : Program) (earlier : List Kind) (n : List ℕ) (t u : Term) (bound : List NamedKind) (s : Position) →
     parts_verdict p earlier (term.ListMap n t u) bound s ≡ list_check true n (verdict_of p earlier t) (verdict_of p earlier u) bound s
 list_map_parts p earlier n t u bound s = parts_at p earlier (Term-F.ListMap n t u) (term.ListMap n t u) (term.rolls-ListMap n t u) bound s
 
-pub list_iter_parts : (p : Program) (earlier : List Kind) (n : List ℕ) (t u : Term) (bound : List NamedKind) (s : Scope) →
+pub list_iter_parts : (p : Program) (earlier : List Kind) (n : List ℕ) (t u : Term) (bound : List NamedKind) (s : Position) →
     parts_verdict p earlier (term.ListIter n t u) bound s ≡ list_check false n (verdict_of p earlier t) (verdict_of p earlier u) bound s
 list_iter_parts p earlier n t u bound s = parts_at p earlier (Term-F.ListIter n t u) (term.ListIter n t u) (term.rolls-ListIter n t u) bound s
 
-pub catch_parts : (p : Program) (earlier : List Kind) (t : Term) (bound : List NamedKind) (s : Scope) →
+pub catch_parts : (p : Program) (earlier : List Kind) (t : Term) (bound : List NamedKind) (s : Position) →
     parts_verdict p earlier (term.Catch t) bound s ≡ outcome_check (verdict_of p earlier t) bound s
 catch_parts p earlier t bound s = parts_at p earlier (Term-F.Catch t) (term.Catch t) (term.rolls-Catch t) bound s
 
-pub state_parts : (p : Program) (earlier : List Kind) (t : Term) (bound : List NamedKind) (s : Scope) →
+pub state_parts : (p : Program) (earlier : List Kind) (t : Term) (bound : List NamedKind) (s : Position) →
     parts_verdict p earlier (term.State t) bound s ≡ outcome_check (verdict_of p earlier t) bound s
 state_parts p earlier t bound s = parts_at p earlier (Term-F.State t) (term.State t) (term.rolls-State t) bound s
 
-pub gate_parts : (p : Program) (earlier : List Kind) (a b : Term) (bound : List NamedKind) (s : Scope) →
+pub gate_parts : (p : Program) (earlier : List Kind) (a b : Term) (bound : List NamedKind) (s : Position) →
     parts_verdict p earlier (term.Gate a b) bound s ≡ gate_check (verdict_of p earlier a) (verdict_of p earlier b) bound s
 gate_parts p earlier a b bound s = parts_at p earlier (Term-F.Gate a b) (term.Gate a b) (term.rolls-Gate a b) bound s
 
@@ -105,16 +105,16 @@ pub map_apply : {X : Type 0} (f : X → Check) (xs : List X) (bound : List Named
 map_apply f [] bound = refl
 map_apply f (x ∷ xs) bound = ap (λ vs. f x bound ∷ vs) (map_apply f xs bound)
 
-pub all_parts : (p : Program) (earlier : List Kind) (ts : List Term) (bound : List NamedKind) (s : Scope) →
+pub all_parts : (p : Program) (earlier : List Kind) (ts : List Term) (bound : List NamedKind) (s : Position) →
     parts_verdict p earlier (term.All ts) bound s ≡ all_from (map (λ t. verdict_of p earlier t bound) ts) s
 all_parts p earlier ts bound s =
     parts_at p earlier (Term-F.All ts) (term.All ts) (term.rolls-All ts) bound s ∙ ap (λ vs. all_from vs s) (map_apply (verdict_of p earlier) ts bound)
 
-pub build_parts : (p : Program) (earlier : List Kind) (op : List ℕ) (k : Term) (bound : List NamedKind) (s : Scope) →
+pub build_parts : (p : Program) (earlier : List Kind) (op : List ℕ) (k : Term) (bound : List NamedKind) (s : Position) →
     parts_verdict p earlier (term.Build op k) bound s ≡ build_check (verdict_of p earlier k) bound s
 build_parts p earlier op k bound s = parts_at p earlier (Term-F.Build op k) (term.Build op k) (term.rolls-Build op k) bound s
 
-pub output_parts : (p : Program) (earlier : List Kind) (op : List ℕ) (k v : Term) (bound : List NamedKind) (s : Scope) →
+pub output_parts : (p : Program) (earlier : List Kind) (op : List ℕ) (k v : Term) (bound : List NamedKind) (s : Position) →
     parts_verdict p earlier (term.Output op k v) bound s ≡ output_check (verdict_of p earlier k) (verdict_of p earlier v) bound s
 output_parts p earlier op k v bound s = parts_at p earlier (Term-F.Output op k v) (term.Output op k v) (term.rolls-Output op k v) bound s
 

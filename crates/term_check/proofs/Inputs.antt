@@ -7,7 +7,7 @@ use Rattle.std.proofs.lemmas.Bool.{or_left, or_right}
 use Rattle.std.proofs.lemmas.Slice.Eq.{bytes_eq-Decides}
 use Rattle.value_core.specs.declared.state.State.{State}
 use Rattle.value_core.specs.declared.value.Value.{Value}
-use Rattle.term_core.specs.Evaluation.{Given, given_of, input_named, Meaning, looked_up, map_run, pair_run, bind_run, items_run, list_run, outcome_run, gate_run, all_run, build_run, output_run, term_step, eval}
+use Rattle.term_core.specs.Evaluation.{Context, context_of, input_named, Meaning, looked_up, map_run, pair_run, bind_run, items_run, list_run, outcome_run, gate_run, all_run, build_run, output_run, term_step, eval}
 use Rattle.term_core.specs.Runs.{stated, visited}
 use Rattle.term_core.specs.States.{listed, passed, caught, observed}
 use Rattle.term_core.specs.World.{World}
@@ -18,11 +18,11 @@ use Rattle.term_check.specs.declared.report.Role.TheVariants as role
 use Rattle.term_check.proofs.Named.{names_in, names_step}
 
 module _ (program : Program) (node : ℕ) (inputs others : List Value) (earlier : List State) (w : World) where
-  abbrev one : Given
-  one = given_of program node inputs earlier w
+  abbrev one : Context
+  one = context_of program node inputs earlier w
 
-  abbrev two : Given
-  two = given_of program node others earlier w
+  abbrev two : Context
+  two = context_of program node others earlier w
 
   abbrev SameFor : Bool → List ℕ → Type 0
   SameFor b n = b ≡ true → input_named program.inputs inputs n ≡ input_named program.inputs others n

@@ -9,3 +9,4 @@ pub mod Inputs
 pub mod Reported
 pub mod Small
 pub mod Proper
+pub mod FittingWants

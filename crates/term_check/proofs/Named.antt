@@ -17,7 +17,8 @@ use Rattle.op_keys.specs.declared.declarations.OpDecl.{OpDecl}
 use Rattle.op_keys.specs.declared.level.Level.{Level}
 use Rattle.term_core.specs.Limits.{parts_of}
 use Rattle.op_keys.specs.Names.{index_named}
-use Rattle.term_core.specs.Soundness.{NamedKind, Typing, IsSound, bind_kind, build_kind, input_kind, is_op, item_kind, kinds_from, layer_kind, literal_kind, node_kinds, output_kind, small, term_kind, unit_of_units, wanted_kind}
+use Rattle.term_core.specs.Soundness.{NamedKind, Typing, IsSound, bind_kind, build_kind, input_kind, is_op, item_kind, kinds_from, layer_kind, node_kinds, output_kind, small, term_kind, unit_of_units, wanted_kind}
+use Rattle.value_core.specs.Kinds.{literal_kind}
 use Rattle.term_core.specs.declared.program.InputDecl.{InputDecl}
 use Rattle.term_core.specs.declared.program.NodeDecl.{NodeDecl}
 use Rattle.term_core.specs.declared.program.Program.{Program}

@@ -27,14 +27,17 @@ use Rattle.value_core.specs.declared.value.Value.{Value, Value-F, out-Value, rol
 use Rattle.value_core.specs.declared.value.Value.TheVariants as value
 use Rattle.value_core.proofs.KindLaws.{kept}
 use Rattle.value_core.proofs.Sames.{same_true}
-use Rattle.term_core.specs.Evaluation.{Bound, Given, given_of, Meaning, bind, fits, innermost, triple_of, entry_state, state_or_unit, value_or_unit, wanted, looked_up, map_run, pair_run, bind_run, items_run, list_run, outcome_run, gate_run, all_run, build_run, output_run, term_step, eval}
+use Rattle.term_core.specs.Evaluation.{Bound, Context, context_of, Meaning, bind, fits, innermost, triple_of, entry_state, state_or_unit, value_or_unit, wanted, looked_up, map_run, pair_run, bind_run, items_run, list_run, outcome_run, gate_run, all_run, build_run, output_run, term_step, eval}
 use Rattle.term_core.specs.Fresh.{fresh, fresh_from}
-use Rattle.term_core.specs.Limits.{IsNodeWithin, has_good_words, is_literal, is_literal_layer, is_name, is_text_layer, words_step}
+use Rattle.term_core.specs.Limits.{IsNodeWithin, has_good_words, is_literal, is_literal_layer, is_text_layer, words_step}
+use Rattle.value_core.specs.Names.{is_name}
 use Rattle.op_keys.specs.Names.{index_named}
 use Rattle.term_core.specs.Runs.{Run, stated, follow, follow_both, together}
-use Rattle.term_core.specs.Soundness.{NamedKind, Typing, bind_kind, build_kind, innermost_kind, is_op, item_kind, item_layer_kind, kind_parts, kinds_from, layer_kind, literal_kind, literal_layer_kind, node_kinds, output_kind, small, term_kind, unit_of_units, wanted_kind}
+use Rattle.term_core.specs.Soundness.{NamedKind, Typing, bind_kind, build_kind, innermost_kind, is_op, item_kind, item_layer_kind, kind_parts, kinds_from, layer_kind, node_kinds, output_kind, small, term_kind, unit_of_units, wanted_kind}
+use Rattle.value_core.specs.Kinds.{literal_layer_kind, literal_kind}
 use Rattle.term_core.specs.States.{applied_state, both, caught, first_active, first_failed, gated, limited, listed, mapped, observed, or_else, paired, passed, values_in, weight_limit}
-use Rattle.term_core.specs.World.{World, entry_of, found_in, same_triple}
+use Rattle.term_core.specs.World.{World, entry_of, found_in}
+use Rattle.value_core.specs.Orders.{same_triple}
 use Rattle.term_core.specs.declared.entries.Entry.{Entry}
 use Rattle.term_core.specs.declared.entries.Entry.TheVariants as entry
 use Rattle.term_core.specs.declared.program.InputDecl.{InputDecl}
@@ -99,7 +102,7 @@ literal_fits (Value-F.List xs) v e h =
 literal_fits (Value-F.Pair a b) v e h = absurd cc
 literal_fits (Value-F.Out o) v e h = absurd cc
 
-literal_bounded : (l : Value-F Outcome Value) → is_literal_layer l ≡ true → layer_bounded l ≡ true
+pub literal_bounded : (l : Value-F Outcome Value) → is_literal_layer l ≡ true → layer_bounded l ≡ true
 literal_bounded (Value-F.Words t) h = h
 literal_bounded (Value-F.Num n) h = h
 literal_bounded Value-F.Unit h = refl
@@ -109,7 +112,7 @@ literal_bounded (Value-F.List xs) h =
 literal_bounded (Value-F.Pair a b) h = absurd cc
 literal_bounded (Value-F.Out o) h = absurd cc
 
-literal_proper : (v : Value) → is_literal v ≡ true → IsProper (literal_kind v) v
+pub literal_proper : (v : Value) → is_literal v ≡ true → IsProper (literal_kind v) v
 literal_proper v h =
     let p = and_parts (is_literal_layer (out-Value v)) (nat_le (weight_of v) weight_limit) h in
     record { of_kind = literal_fits (out-Value v) v refl p.0; bounded = bounded_out v ∙ literal_bounded (out-Value v) p.0; light = leb-true (weight_of v) weight_limit p.1 }
@@ -226,7 +229,7 @@ values_proper k (Fine v ∷ ss) h = (h.0, values_proper k ss h.1)
 values_proper k (Failed o m ∷ ss) h = values_proper k ss h.1
 values_proper k (Active o g ∷ ss) h = values_proper k ss h.1
 
-values_few : (ss : List State) → length (values_in ss) ≤ length ss
+pub values_few : (ss : List State) → length (values_in ss) ≤ length ss
 values_few [] = omega arith
 values_few (Fine v ∷ ss) = let h = values_few ss in omega (arith, h)
 values_few (Failed o m ∷ ss) = let h = values_few ss in omega (arith, h)
@@ -297,7 +300,7 @@ found_proper [] other t h o = o
 found_proper (e ∷ es) other t h o =
     elim (same_triple e.0 t) as (λ b. IsShortEntry (cond b e.1 (found_in es other t))) [ true ↦ h.0 | false ↦ found_proper es other t h.1 o ]
 
-entry_proper : (w : World) (t : Triple) → HasShortEntries w → IsShortEntry (entry_of w t)
+pub entry_proper : (w : World) (t : Triple) → HasShortEntries w → IsShortEntry (entry_of w t)
 entry_proper w t h = found_proper w.entries _ t h tt
 
 input_at : (ds : List InputDecl) (vs : List Value) (i : ℕ) (k : Kind) → AreProperInputs ds vs → option_map (λ d. literal_kind d.value) (slice_get ds i) ≡ Some k → IsProper k (value_or_unit (slice_get vs i))
@@ -379,27 +382,27 @@ entry_state_proper node (entry.Active s) k meant f h = tt
 
 module _ (p : Program) (node : ℕ) (inputs : List Value) (states : List State) (earlier : List Kind) (w : World)
     (inputs_are : AreProperInputs p.inputs inputs) (states_are : AreProperStates earlier states) (entries_are : HasShortEntries w) where
-  abbrev given : Given
-  given = given_of p node inputs states w
+  abbrev context : Context
+  context = context_of p node inputs states w
 
   -- what a term comes to is of its kind
   abbrev IsProperTerm : Term → Type 0
-  IsProperTerm t = (gs : List NamedKind) (k : Kind) (bs : Bound) → term_kind p earlier t gs ≡ Some k → has_good_words t ≡ true → AreProperBound gs bs → IsProperState k (eval given t bs).state
+  IsProperTerm t = (gs : List NamedKind) (k : Kind) (bs : Bound) → term_kind p earlier t gs ≡ Some k → has_good_words t ≡ true → AreProperBound gs bs → IsProperState k (eval context t bs).state
 
   look_proper : (b : Bool) (k : Kind) (meant : List ℕ → Value) (t : Triple) → ((x : List ℕ) → length x ≤ 65536 → IsProper k (meant x)) →
-      IsProperState k (cond b (wanted given meant t) (stated (Failed node (codes "order too long")))).state
+      IsProperState k (cond b (wanted context meant t) (stated (Failed node (codes "order too long")))).state
   look_proper true k meant t f = entry_state_proper node (entry_of w t) k meant f (entry_proper w t entries_are)
   look_proper false k meant t f = omega arith
 
-  looked_up_proper : (k : Kind) (meant : List ℕ → Value) (t : Triple) → ((x : List ℕ) → length x ≤ 65536 → IsProper k (meant x)) → IsProperState k (looked_up given meant t).state
+  looked_up_proper : (k : Kind) (meant : List ℕ → Value) (t : Triple) → ((x : List ℕ) → length x ≤ 65536 → IsProper k (meant x)) → IsProperState k (looked_up context meant t).state
   unfolding looked_up
   looked_up_proper k meant t f = look_proper (fits (slice_get p.ops t.op) t) k meant t f
 
-  map_proper : (f : Fun) (t : Meaning) (bs : Bound) (k to : Kind) → kind_given f k ≡ Some to → IsProperState k (t bs).state → IsProperState to (map_run given f t bs).state
+  map_proper : (f : Fun) (t : Meaning) (bs : Bound) (k to : Kind) → kind_given f k ≡ Some to → IsProperState k (t bs).state → IsProperState to (map_run context f t bs).state
   unfolding map_run
   map_proper f t bs k to e h = mapped_proper node f k to (t bs).state e h
 
-  pair_run_proper : (a b : Meaning) (bs : Bound) (k l : Kind) → IsProperState k (a bs).state → IsProperState l (b bs).state → IsProperState (kind.Pair k l) (pair_run given a b bs).state
+  pair_run_proper : (a b : Meaning) (bs : Bound) (k l : Kind) → IsProperState k (a bs).state → IsProperState l (b bs).state → IsProperState (kind.Pair k l) (pair_run context a b bs).state
   unfolding pair_run
   pair_run_proper a b bs k l h g = paired_proper node k l (a bs).state (b bs).state h g
 
@@ -451,37 +454,37 @@ module _ (p : Program) (node : ℕ) (inputs : List Value) (states : List State) 
   unfolding all_run
   all_run_proper rs h = both_proper kind.Unit kind.Unit (map (λ r. r.state) rs) passed h proper_unit
 
-  build_run_proper : (op : List ℕ) (k : Meaning) (bs : Bound) → IsProperState kind.Text (k bs).state → IsProperState kind.Text (build_run given op k bs).state
+  build_run_proper : (op : List ℕ) (k : Meaning) (bs : Bound) → IsProperState kind.Text (k bs).state → IsProperState kind.Text (build_run context op k bs).state
   unfolding build_run
   build_run_proper op k bs h =
-      follow_proper kind.Text kind.Text (k bs).state (λ v. looked_up given value.Words (triple_of given op (text_in v) [])) h (λ v proper. looked_up_proper kind.Text value.Words (triple_of given op (text_in v) []) (λ x short. proper_words x short))
+      follow_proper kind.Text kind.Text (k bs).state (λ v. looked_up context value.Words (triple_of context op (text_in v) [])) h (λ v proper. looked_up_proper kind.Text value.Words (triple_of context op (text_in v) []) (λ x short. proper_words x short))
 
-  output_run_proper : (op : List ℕ) (a b : Meaning) (bs : Bound) → IsProperState kind.Text (a bs).state → IsProperState kind.Text (b bs).state → IsProperState kind.Unit (output_run given op a b bs).state
+  output_run_proper : (op : List ℕ) (a b : Meaning) (bs : Bound) → IsProperState kind.Text (a bs).state → IsProperState kind.Text (b bs).state → IsProperState kind.Unit (output_run context op a b bs).state
   unfolding output_run
   output_run_proper op a b bs h g =
-      follow_both_proper kind.Text kind.Text kind.Unit (a bs).state (b bs).state (λ v x. looked_up given (λ t. value.Unit) (triple_of given op (text_in v) (text_in x))) h g
-      (λ v x pv px. looked_up_proper kind.Unit (λ t. value.Unit) (triple_of given op (text_in v) (text_in x)) (λ t short. proper_unit))
+      follow_both_proper kind.Text kind.Text kind.Unit (a bs).state (b bs).state (λ v x. looked_up context (λ t. value.Unit) (triple_of context op (text_in v) (text_in x))) h g
+      (λ v x pv px. looked_up_proper kind.Unit (λ t. value.Unit) (triple_of context op (text_in v) (text_in x)) (λ t short. proper_unit))
 
   as_wanted : (want k j : Kind) (s : State) → wanted_kind want k ≡ Some j → IsProperState k s → IsProperState want s
   as_wanted want k j s e h = subst (λ (x : Kind). IsProperState x s) (wanted_is want k j e).0 h
 
   all_proper : {E : Type 0} (of : E → Term) → ((e : E) → IsProperTerm (of e)) → (ts : List E) (gs : List NamedKind) (k : Kind) (bs : Bound) →
       unit_of_units (map (λ t. t gs) (map (term_kind p earlier) (map of ts))) ≡ Some k → list_all (λ b. b) (map has_good_words (map of ts)) ≡ true → AreProperBound gs bs →
-      (kind.Unit ≡ k) × AllByRecursion (IsProperState kind.Unit) (map (λ r. r.state) (map (λ m. m bs) (map (eval given) (map of ts))))
+      (kind.Unit ≡ k) × AllByRecursion (IsProperState kind.Unit) (map (λ r. r.state) (map (λ m. m bs) (map (eval context) (map of ts))))
   all_proper of has [] gs k bs e good h = (cc, tt)
   all_proper of has (t ∷ ts) gs k bs e good h =
       let o = behind (option_and_then (wanted_kind kind.Unit) (term_kind p earlier (of t) gs)) (λ k. unit_of_units (map (λ t. t gs) (map (term_kind p earlier) (map of ts)))) k e in
       let i = behind (term_kind p earlier (of t) gs) (wanted_kind kind.Unit) o.first o.first_is in
       let g = and_parts (has_good_words (of t)) (list_all (λ b. b) (map has_good_words (map of ts))) good in
       let rest = all_proper of has ts gs k bs o.second_is g.1 h in
-      (rest.0, (as_wanted kind.Unit i.first o.first (eval given (of t) bs).state i.second_is (has t gs i.first bs i.first_is g.0 h), rest.1))
+      (rest.0, (as_wanted kind.Unit i.first o.first (eval context (of t) bs).state i.second_is (has t gs i.first bs i.first_is g.0 h), rest.1))
 
   to_kind : {k j : Kind} (s : State) → k ≡ j → IsProperState k s → IsProperState j s
   to_kind s e h = subst (λ (x : Kind). IsProperState x s) e h
 
   layer_proper : {E : Type 0} (of : E → Term) → ((e : E) → IsProperTerm (of e)) → (y : Term-F E) (gs : List NamedKind) (k : Kind) (bs : Bound) →
       layer_kind p earlier (map-Term Term Typing (term_kind p earlier) (map-Term E Term of y)) gs ≡ Some k → words_step (map-Term Term Bool has_good_words (map-Term E Term of y)) ≡ true → AreProperBound gs bs →
-      IsProperState k (term_step given (map-Term Term Meaning (eval given) (map-Term E Term of y)) bs).state
+      IsProperState k (term_step context (map-Term Term Meaning (eval context) (map-Term E Term of y)) bs).state
   layer_proper of has (Term-F.Return v) gs k bs e good h = to_kind (Fine v) (let is : literal_kind v ≡ k = cc in is) (literal_proper v good)
   layer_proper of has (Term-F.Fail f m) gs k bs e good h = leb-true (length m) 65536 good
   layer_proper of has (Term-F.Input n) gs k bs e good h = input_at p.inputs inputs (index_named 0 (map (λ d. d.name) p.inputs) n) k inputs_are e
@@ -489,17 +492,17 @@ module _ (p : Program) (node : ℕ) (inputs : List Value) (states : List State) 
   layer_proper of has (Term-F.Var n) gs k bs e good h = innermost_proper None value.Unit gs bs n k (λ j is. absurd cc) h e
   layer_proper of has (Term-F.Map f t) gs k bs e good h =
       let o = behind (term_kind p earlier (of t) gs) (kind_given f) k e in
-      map_proper f (eval given (of t)) bs o.first k o.second_is (has t gs o.first bs o.first_is good h)
+      map_proper f (eval context (of t)) bs o.first k o.second_is (has t gs o.first bs o.first_is good h)
   layer_proper of has (Term-F.Pair a b) gs k bs e good h =
       let o = behind (term_kind p earlier (of a) gs) (λ i. option_and_then (λ j. Some (kind.Pair i j)) (term_kind p earlier (of b) gs)) k e in
       let i = behind (term_kind p earlier (of b) gs) (λ j. Some (kind.Pair o.first j)) k o.second_is in
       let g = and_parts (has_good_words (of a)) (has_good_words (of b)) good in
       to_kind _ (let is : kind.Pair o.first i.first ≡ k = let e : Some (kind.Pair o.first i.first) ≡ Some k = i.second_is in cc in is)
-      (pair_run_proper (eval given (of a)) (eval given (of b)) bs o.first i.first (has a gs o.first bs o.first_is g.0 h) (has b gs i.first bs i.first_is g.1 h))
+      (pair_run_proper (eval context (of a)) (eval context (of b)) bs o.first i.first (has a gs o.first bs o.first_is g.0 h) (has b gs i.first bs i.first_is g.1 h))
   layer_proper of has (Term-F.Bind n a b) gs k bs e good h =
       let o = behind (term_kind p earlier (of a) gs) (λ i. term_kind p earlier (of b) (bind_kind gs n i)) k e in
       let g = and_parts (has_good_words (of a)) (has_good_words (of b)) (and_parts (is_name n) (has_good_words (of a) && has_good_words (of b)) good).1 in
-      bind_run_proper n (eval given (of a)) (eval given (of b)) bs o.first k (has a gs o.first bs o.first_is g.0 h)
+      bind_run_proper n (eval context (of a)) (eval context (of b)) bs o.first k (has a gs o.first bs o.first_is g.0 h)
       (λ v proper. has b (bind_kind gs n o.first) k (bind bs n v) o.second_is g.1 (bound_more gs bs n o.first v h proper))
   layer_proper of has (Term-F.ListMap n a b) gs k bs e good h =
       let o = behind (option_and_then item_kind (term_kind p earlier (of a) gs)) (λ i. option_and_then (λ j. Some (kind.List j)) (term_kind p earlier (of b) (bind_kind gs n i))) k e in
@@ -507,7 +510,7 @@ module _ (p : Program) (node : ℕ) (inputs : List Value) (states : List State) 
       let i = behind (term_kind p earlier (of b) (bind_kind gs n o.first)) (λ j. Some (kind.List j)) k o.second_is in
       let g = and_parts (has_good_words (of a)) (has_good_words (of b)) (and_parts (is_name n) (has_good_words (of a) && has_good_words (of b)) good).1 in
       to_kind _ (let is : kind.List i.first ≡ k = let e : Some (kind.List i.first) ≡ Some k = i.second_is in cc in is)
-      (list_map_proper n (eval given (of a)) (eval given (of b)) bs l.first o.first i.first l.second_is (has a gs l.first bs l.first_is g.0 h)
+      (list_map_proper n (eval context (of a)) (eval context (of b)) bs l.first o.first i.first l.second_is (has a gs l.first bs l.first_is g.0 h)
       (λ v proper. has b (bind_kind gs n o.first) i.first (bind bs n v) i.first_is g.1 (bound_more gs bs n o.first v h proper)))
   layer_proper of has (Term-F.ListIter n a b) gs k bs e good h =
       let o = behind (option_and_then item_kind (term_kind p earlier (of a) gs)) (λ i. option_and_then (wanted_kind kind.Unit) (term_kind p earlier (of b) (bind_kind gs n i))) k e in
@@ -516,29 +519,29 @@ module _ (p : Program) (node : ℕ) (inputs : List Value) (states : List State) 
       let g = and_parts (has_good_words (of a)) (has_good_words (of b)) (and_parts (is_name n) (has_good_words (of a) && has_good_words (of b)) good).1 in
       let unit = wanted_is kind.Unit i.first k i.second_is in
       to_kind _ (sym unit.0 ∙ unit.1)
-      (list_iter_proper n (eval given (of a)) (eval given (of b)) bs l.first o.first l.second_is (has a gs l.first bs l.first_is g.0 h)
+      (list_iter_proper n (eval context (of a)) (eval context (of b)) bs l.first o.first l.second_is (has a gs l.first bs l.first_is g.0 h)
       (λ v proper. to_kind _ unit.0 (has b (bind_kind gs n o.first) i.first (bind bs n v) i.first_is g.1 (bound_more gs bs n o.first v h proper))))
   layer_proper of has (Term-F.Catch t) gs k bs e good h =
       let o = behind (term_kind p earlier (of t) gs) (λ i. Some (kind.Out i)) k e in
-      to_kind _ (let is : kind.Out o.first ≡ k = let e : Some (kind.Out o.first) ≡ Some k = o.second_is in cc in is) (caught_run_proper (eval given (of t)) bs o.first (has t gs o.first bs o.first_is good h))
+      to_kind _ (let is : kind.Out o.first ≡ k = let e : Some (kind.Out o.first) ≡ Some k = o.second_is in cc in is) (caught_run_proper (eval context (of t)) bs o.first (has t gs o.first bs o.first_is good h))
   layer_proper of has (Term-F.State t) gs k bs e good h =
       let o = behind (term_kind p earlier (of t) gs) (λ i. Some (kind.Out i)) k e in
-      to_kind _ (let is : kind.Out o.first ≡ k = let e : Some (kind.Out o.first) ≡ Some k = o.second_is in cc in is) (observed_run_proper (eval given (of t)) bs o.first (has t gs o.first bs o.first_is good h))
+      to_kind _ (let is : kind.Out o.first ≡ k = let e : Some (kind.Out o.first) ≡ Some k = o.second_is in cc in is) (observed_run_proper (eval context (of t)) bs o.first (has t gs o.first bs o.first_is good h))
   layer_proper of has (Term-F.Gate a b) gs k bs e good h =
       let o = behind (option_and_then (wanted_kind kind.Unit) (term_kind p earlier (of a) gs)) (λ i. term_kind p earlier (of b) gs) k e in
       let l = behind (term_kind p earlier (of a) gs) (wanted_kind kind.Unit) o.first o.first_is in
       let g = and_parts (has_good_words (of a)) (has_good_words (of b)) good in
-      gate_run_proper (eval given (of a)) (eval given (of b)) bs l.first k (has a gs l.first bs l.first_is g.0 h) (has b gs k bs o.second_is g.1 h)
+      gate_run_proper (eval context (of a)) (eval context (of b)) bs l.first k (has a gs l.first bs l.first_is g.0 h) (has b gs k bs o.second_is g.1 h)
   layer_proper of has (Term-F.All ts) gs k bs e good h =
       let a = all_proper of has ts gs k bs e good h in
-      to_kind _ a.0 (all_run_proper (map (λ m. m bs) (map (eval given) (map of ts))) a.1)
+      to_kind _ a.0 (all_run_proper (map (λ m. m bs) (map (eval context) (map of ts))) a.1)
   layer_proper of has (Term-F.Build op t) gs k bs e good h =
       let o = known_op (is_op p op false) (build_kind (term_kind p earlier (of t) gs)) k e in
       let i = behind (option_and_then (wanted_kind kind.Text) (term_kind p earlier (of t) gs)) (λ i. Some kind.Text) k o.1 in
       let l = behind (term_kind p earlier (of t) gs) (wanted_kind kind.Text) i.first i.first_is in
       let g = and_parts (is_name op) (has_good_words (of t)) good in
       to_kind _ (let is : kind.Text ≡ k = let e : Some kind.Text ≡ Some k = i.second_is in cc in is)
-      (build_run_proper op (eval given (of t)) bs (as_wanted kind.Text l.first i.first (eval given (of t) bs).state l.second_is (has t gs l.first bs l.first_is g.1 h)))
+      (build_run_proper op (eval context (of t)) bs (as_wanted kind.Text l.first i.first (eval context (of t) bs).state l.second_is (has t gs l.first bs l.first_is g.1 h)))
   layer_proper of has (Term-F.Output op a b) gs k bs e good h =
       let o = known_op (is_op p op true) (output_kind (term_kind p earlier (of a) gs) (term_kind p earlier (of b) gs)) k e in
       let i = behind (option_and_then (wanted_kind kind.Text) (term_kind p earlier (of a) gs)) (λ i. option_and_then (λ v. Some kind.Unit) (option_and_then (wanted_kind kind.Text) (term_kind p earlier (of b) gs))) k o.1 in
@@ -547,18 +550,18 @@ module _ (p : Program) (node : ℕ) (inputs : List Value) (states : List State) 
       let m = behind (term_kind p earlier (of b) gs) (wanted_kind kind.Text) j.first j.first_is in
       let g = and_parts (has_good_words (of a)) (has_good_words (of b)) (and_parts (is_name op) (has_good_words (of a) && has_good_words (of b)) good).1 in
       to_kind _ (let is : kind.Unit ≡ k = let e : Some kind.Unit ≡ Some k = j.second_is in cc in is)
-      (output_run_proper op (eval given (of a)) (eval given (of b)) bs
-      (as_wanted kind.Text l.first i.first (eval given (of a) bs).state l.second_is (has a gs l.first bs l.first_is g.0 h))
-      (as_wanted kind.Text m.first j.first (eval given (of b) bs).state m.second_is (has b gs m.first bs m.first_is g.1 h)))
+      (output_run_proper op (eval context (of a)) (eval context (of b)) bs
+      (as_wanted kind.Text l.first i.first (eval context (of a) bs).state l.second_is (has a gs l.first bs l.first_is g.0 h))
+      (as_wanted kind.Text m.first j.first (eval context (of b) bs).state m.second_is (has b gs m.first bs m.first_is g.1 h)))
 
   rolled_proper : (x : Term-F Term) → ((gs : List NamedKind) (k : Kind) (bs : Bound) → layer_kind p earlier (map-Term Term Typing (term_kind p earlier) x) gs ≡ Some k → words_step (map-Term Term Bool has_good_words x) ≡ true → AreProperBound gs bs →
-      IsProperState k (term_step given (map-Term Term Meaning (eval given) x) bs).state) → IsProperTerm (roll-Term x)
+      IsProperState k (term_step context (map-Term Term Meaning (eval context) x) bs).state) → IsProperTerm (roll-Term x)
   unfolding term_kind
   rolled_proper x h gs k bs e good bound =
       let e' = sym (ap (λ (f : Typing). f gs) (fold-roll-Term Typing (λ y bound. option_and_then small (layer_kind p earlier y bound)) x)) ∙ e in
       let b = behind (layer_kind p earlier (map-Term Term Typing (term_kind p earlier) x) gs) small k e' in
       let good' = sym (fold-roll-Term Bool words_step x) ∙ good in
-      let run = ap (λ (m : Meaning). m bs) (fold-roll-Term Meaning (term_step given) x) in
+      let run = ap (λ (m : Meaning). m bs) (fold-roll-Term Meaning (term_step context) x) in
       subst (λ (r : Run). IsProperState k r.state) (sym run) (to_kind _ (small_is b.first k b.second_is) (h gs b.first bs b.first_is good' bound))
 
   pub terms_proper : (t : Term) → IsProperTerm t
@@ -577,7 +580,7 @@ fresh_proper : (p : Program) (inputs : List Value) (w : World) → AreProperInpu
 fresh_proper p inputs w i e [] at earlier states kinds h within is =
     let same : earlier ≡ kinds = cc in subst (λ (ks : List Kind). AreProperStates ks (states ++ [])) same (subst (λ (ss : List State). AreProperStates earlier ss) (sym (append-nil states)) h)
 fresh_proper p inputs w i e (d ∷ ds) at earlier states kinds h within is =
-    let r : Run = eval (given_of p at inputs states w) d.term [] in
+    let r : Run = eval (context_of p at inputs states w) d.term [] in
     let b = behind_list (term_kind p earlier d.term []) (λ k. kinds_from p (earlier ++ k ∷ []) ds) kinds is in
     let one = terms_proper p at inputs states earlier w i h e d.term [] b.0 [] b.1 within.0.words tt in
     let rest = fresh_proper p inputs w i e ds (at + 1) (earlier ++ b.0 ∷ []) (states ++ r.state ∷ []) kinds (states_more earlier states b.0 r.state h one) within.1 b.2 in

@@ -7,7 +7,7 @@ use Rattle.value_core.specs.declared.state.State.{State}
 use Rattle.value_core.specs.declared.state.Triple.{Triple}
 use Rattle.value_core.specs.declared.value.Value.{Value}
 use Rattle.op_keys.specs.declared.declarations.OpDecl.{OpDecl}
-use Rattle.term_core.specs.Evaluation.{given_of, input_named, eval, Meaning, value_or_unit}
+use Rattle.term_core.specs.Evaluation.{context_of, input_named, eval, Meaning, value_or_unit}
 use Rattle.term_core.specs.Fresh.{FreshRun, run_before, fresh_from, fresh}
 use Rattle.op_keys.specs.Names.{index_named}
 use Rattle.term_core.specs.Runs.{Run}
@@ -31,8 +31,8 @@ fresh_inputs : (p : Program) (inputs others : List Value) (w : World) (at : ℕ)
     fresh_from p inputs w at earlier ds ≡ fresh_from p others w at earlier ds
 fresh_inputs p inputs others w at earlier [] q = refl
 fresh_inputs p inputs others w at earlier (d ∷ ds) q =
-    let r : Run = eval (given_of p at inputs earlier w) d.term [] in
-    let s : Run = eval (given_of p at others earlier w) d.term [] in
+    let r : Run = eval (context_of p at inputs earlier w) d.term [] in
+    let s : Run = eval (context_of p at others earlier w) d.term [] in
     let e : r ≡ s = ap (λ (m : Meaning). m []) (same_inputs p at inputs others earlier w d.term (λ n u. q n (or_left (names_in role.Input n d.term) (list_any (λ d. names_in role.Input n d.term) ds) u))) in
     let f = fresh_inputs p inputs others w (at + 1) (earlier ++ r.state ∷ []) ds (λ n u. q n (or_right (names_in role.Input n d.term) (list_any (λ d. names_in role.Input n d.term) ds) u)) in
     ap (λ (z : FreshRun). run_before r z) f
@@ -43,9 +43,9 @@ fresh_wants : (p : Program) (inputs : List Value) (w : World) (Q : ℕ → Type 
     AllByRecursion (λ (t : Triple). Q t.op) (fresh_from p inputs w at earlier ds).wants
 fresh_wants p inputs w Q at earlier [] q = tt
 fresh_wants p inputs w Q at earlier (d ∷ ds) q =
-    let r : Run = eval (given_of p at inputs earlier w) d.term [] in
+    let r : Run = eval (context_of p at inputs earlier w) d.term [] in
     all_both (λ (t : Triple). Q t.op) r.wants (fresh_from p inputs w (at + 1) (earlier ++ r.state ∷ []) ds).wants
-    (wants_of (given_of p at inputs earlier w) Q d.term (λ n u. q n (or_left (names_in role.Op n d.term) (list_any (λ d. names_in role.Op n d.term) ds) u)) [])
+    (wants_of (context_of p at inputs earlier w) Q d.term (λ n u. q n (or_left (names_in role.Op n d.term) (list_any (λ d. names_in role.Op n d.term) ds) u)) [])
     (fresh_wants p inputs w Q (at + 1) (earlier ++ r.state ∷ []) ds (λ n u. q n (or_right (names_in role.Op n d.term) (list_any (λ d. names_in role.Op n d.term) ds) u)))
 
 pub reads_only_reported : ReadsOnlyReported

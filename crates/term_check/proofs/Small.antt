@@ -203,7 +203,7 @@ number_low (Value-F.Pair a b) h = omega arith
 number_low (Value-F.List xs) h = omega arith
 number_low (Value-F.Out o) h = omega arith
 
-items_few : (l : Value-F Outcome Value) → layer_bounded l ≡ true → length (items_layer l) ≤ 256
+pub items_few : (l : Value-F Outcome Value) → layer_bounded l ≡ true → length (items_layer l) ≤ 256
 items_few (Value-F.Words t) h = omega arith
 items_few (Value-F.Num n) h = omega arith
 items_few Value-F.Unit h = omega arith

@@ -10,7 +10,8 @@ use Rattle.value_core.specs.declared.function.Fun.{Fun}
 use Rattle.value_core.specs.declared.value.Kind.{Kind}
 use Rattle.value_core.specs.declared.value.Kind.TheVariants as kind
 use Rattle.term_core.specs.Limits.{parts_of, terms_in}
-use Rattle.term_core.specs.Soundness.{NamedKind, Typing, Nesting, bind_kind, build_kind, fail_kind, innermost_kind, input_kind, is_op, item_kind, kind_parts, layer_kind, literal_kind, nesting_of, nesting_step, node_kind, output_kind, small, term_kind, unit_of_units, wanted_kind}
+use Rattle.term_core.specs.Soundness.{NamedKind, Typing, Nesting, bind_kind, build_kind, fail_kind, innermost_kind, input_kind, is_op, item_kind, kind_parts, layer_kind, nesting_of, nesting_step, node_kind, output_kind, small, term_kind, unit_of_units, wanted_kind}
+use Rattle.value_core.specs.Kinds.{literal_kind}
 use Rattle.term_core.specs.declared.program.Program.{Program}
 use Rattle.term_core.specs.declared.program.Term.{Term, Term-F, roll-Term, map-Term, fold-roll-Term, ind-Term}
 use Rattle.term_check.specs.Functions.{fun_wanted}
@@ -18,7 +19,7 @@ use Rattle.term_check.specs.Typing.{Check, all_from, bind_check, build_check, ch
 use Rattle.term_check.specs.Verdicts.{behind, expected, in_body, inside, named, nested, sized, then_typed, turned_kind, typed_or}
 use Rattle.term_check.specs.declared.fault.CheckWhat.{CheckWhat}
 use Rattle.term_check.specs.declared.fault.CheckWhat.TheVariants as what
-use Rattle.term_check.specs.declared.verdict.Scope.{Scope}
+use Rattle.term_check.specs.declared.verdict.Position.{Position}
 use Rattle.term_check.specs.declared.verdict.Verdict.{Verdict}
 use Rattle.term_check.specs.declared.verdict.Verdict.TheVariants.{Typed, Faulty}
 use Rattle.term_check.specs.declared.wanted.Wanted.{Wanted}
@@ -147,13 +148,13 @@ nested_tells true il bodies deep at x o f c next is h = deep_tells il (nat_le 64
 nested_tells false il bodies deep at x o f c next is h = tells_at x o f (lists_fit il bodies f) c (0 + c) deep next next h (flat_fit il bodies f is) (omega arith) refl
 
 -- a term whose parts have been answered
-framed : {v : Verdict} {o : Option Kind} {f : Bool} {c next : ℕ} (il : Bool) (s : Scope) → Answer v o f c (inside s).deep next →
+framed : {v : Verdict} {o : Option Kind} {f : Bool} {c next : ℕ} (il : Bool) (s : Position) → Answer v o f c (inside s).deep next →
     Answer (nested il s (sized s.at v)) (option_and_then small o) (lists_fit il s.bodies f) ((cond (nat_le 2 s.bodies) 1 0) + c) s.deep next
 framed {v} {o} {f} {c} {next} il s h =
     record { tells = nested_tells (nat_le 2 s.bodies) il s.bodies s.deep s.at (sized s.at v) (option_and_then small o) f c next refl (sized_tells v s.at o f c (inside s).deep next h.tells) }
 
 -- a term that is a name
-name_answers : (w : CheckWhat) (s : Scope) (o : Option Kind) →
+name_answers : (w : CheckWhat) (s : Position) (o : Option Kind) →
     Answer (named (unless (is_some o) w) s.at (nested false s (sized s.at (leaf (kind_or_unit o) (inside s))))) (option_and_then small o) true ((cond (nat_le 2 s.bodies) 1 0) + 0) s.deep (s.at + 1)
 name_answers w s (Some k) = framed false s (typed_answer k (inside s).deep (s.at + 1))
 name_answers w s None = record { tells = record { amiss = λ before some fits few. cc } }
@@ -167,40 +168,40 @@ op_answers o false w at h = record { tells = record { amiss = λ before some fit
 -- ---- the kinds of terms
 
 abbrev AnswersUnder : Check → Typing → (ℕ → Nesting) → ℕ → Type 0
-AnswersUnder v k n m = (bound : List NamedKind) (s : Scope) → Answer (v bound s) (k bound) (n s.bodies).fits (n s.bodies).deep s.deep (s.at + m)
+AnswersUnder v k n m = (bound : List NamedKind) (s : Position) → Answer (v bound s) (k bound) (n s.bodies).fits (n s.bodies).deep s.deep (s.at + m)
 
 both_fit : (f g : Bool) → (f && g) ≡ (f && (g && true))
 both_fit f g = ap (λ (b : Bool). f && b) (sym (and_true g))
 
-map_answers : (f : Fun) (v : Check) (k : Typing) (n : ℕ → Nesting) (m : ℕ) → AnswersUnder v k n m → (bound : List NamedKind) (s : Scope) →
+map_answers : (f : Fun) (v : Check) (k : Typing) (n : ℕ → Nesting) (m : ℕ) → AnswersUnder v k n m → (bound : List NamedKind) (s : Position) →
     Answer (map_check f v bound s) (option_and_then (kind_given f) (k bound)) (n s.bodies).fits (n s.bodies).deep s.deep (s.at + m)
 unfolding map_check
 map_answers f v k n m h bound s = expect_answers (kind_given f) (fun_wanted f) s.at (h bound s)
 
-outcome_answers : (v : Check) (k : Typing) (n : ℕ → Nesting) (m : ℕ) → AnswersUnder v k n m → (bound : List NamedKind) (s : Scope) →
+outcome_answers : (v : Check) (k : Typing) (n : ℕ → Nesting) (m : ℕ) → AnswersUnder v k n m → (bound : List NamedKind) (s : Position) →
     Answer (outcome_check v bound s) (option_and_then (λ a. Some (kind.Out a)) (k bound)) (n s.bodies).fits (n s.bodies).deep s.deep (s.at + m)
 unfolding outcome_check
 outcome_answers v k n m h bound s = turn_answers kind.Out (h bound s)
 
-build_answers : (v : Check) (k : Typing) (n : ℕ → Nesting) (m : ℕ) → AnswersUnder v k n m → (bound : List NamedKind) (s : Scope) →
+build_answers : (v : Check) (k : Typing) (n : ℕ → Nesting) (m : ℕ) → AnswersUnder v k n m → (bound : List NamedKind) (s : Position) →
     Answer (build_check v bound s) (build_kind (k bound)) (n s.bodies).fits (n s.bodies).deep s.deep (s.at + m)
 unfolding build_check
 build_answers v k n m h bound s = turn_answers (λ a. kind.Text) (expect_answers (wanted_kind kind.Text) wanted.Text s.at (h bound s))
 
-pair_answers : (v v' : Check) (k k' : Typing) (n n' : ℕ → Nesting) (m m' : ℕ) → AnswersUnder v k n m → AnswersUnder v' k' n' m' → (bound : List NamedKind) (s : Scope) →
+pair_answers : (v v' : Check) (k k' : Typing) (n n' : ℕ → Nesting) (m m' : ℕ) → AnswersUnder v k n m → AnswersUnder v' k' n' m' → (bound : List NamedKind) (s : Position) →
     Answer (pair_check v v' bound s) (option_and_then (λ a. option_and_then (λ b. Some (kind.Pair a b)) (k' bound)) (k bound)) ((n s.bodies).fits && (n' s.bodies).fits) ((n s.bodies).deep + (n' s.bodies).deep) s.deep ((s.at + m) + m')
 unfolding pair_check
 pair_answers v v' k k' n n' m m' h h' bound s =
     then_answers (λ a d at. turned_kind (kind.Pair a) (v' bound (behind s d at))) (λ a. option_and_then (λ b. Some (kind.Pair a b)) (k' bound)) (h bound s)
     (λ a d. turn_answers (kind.Pair a) (h' bound (behind s d (s.at + m))))
 
-gate_answers : (v v' : Check) (k k' : Typing) (n n' : ℕ → Nesting) (m m' : ℕ) → AnswersUnder v k n m → AnswersUnder v' k' n' m' → (bound : List NamedKind) (s : Scope) →
+gate_answers : (v v' : Check) (k k' : Typing) (n n' : ℕ → Nesting) (m m' : ℕ) → AnswersUnder v k n m → AnswersUnder v' k' n' m' → (bound : List NamedKind) (s : Position) →
     Answer (gate_check v v' bound s) (option_and_then (λ a. k' bound) (option_and_then (wanted_kind kind.Unit) (k bound))) ((n s.bodies).fits && (n' s.bodies).fits) ((n s.bodies).deep + (n' s.bodies).deep) s.deep ((s.at + m) + m')
 unfolding gate_check
 gate_answers v v' k k' n n' m m' h h' bound s =
     then_answers (λ a d at. v' bound (behind s d at)) (λ a. k' bound) (expect_answers (wanted_kind kind.Unit) wanted.Unit s.at (h bound s)) (λ a d. h' bound (behind s d (s.at + m)))
 
-output_answers : (v v' : Check) (k k' : Typing) (n n' : ℕ → Nesting) (m m' : ℕ) → AnswersUnder v k n m → AnswersUnder v' k' n' m' → (bound : List NamedKind) (s : Scope) →
+output_answers : (v v' : Check) (k k' : Typing) (n n' : ℕ → Nesting) (m m' : ℕ) → AnswersUnder v k n m → AnswersUnder v' k' n' m' → (bound : List NamedKind) (s : Position) →
     Answer (output_check v v' bound s) (output_kind (k bound) (k' bound)) ((n s.bodies).fits && (n' s.bodies).fits) ((n s.bodies).deep + (n' s.bodies).deep) s.deep ((s.at + m) + m')
 unfolding output_check
 output_answers v v' k k' n n' m m' h h' bound s =
@@ -208,7 +209,7 @@ output_answers v v' k k' n n' m m' h h' bound s =
     (expect_answers (wanted_kind kind.Text) wanted.Text s.at (h bound s))
     (λ a d. turn_answers (λ b. kind.Unit) (expect_answers (wanted_kind kind.Text) wanted.Text (s.at + m) (h' bound (behind s d (s.at + m)))))
 
-bind_answers : (name : List ℕ) (v v' : Check) (k k' : Typing) (n n' : ℕ → Nesting) (m m' : ℕ) → AnswersUnder v k n m → AnswersUnder v' k' n' m' → (bound : List NamedKind) (s : Scope) →
+bind_answers : (name : List ℕ) (v v' : Check) (k k' : Typing) (n n' : ℕ → Nesting) (m m' : ℕ) → AnswersUnder v k n m → AnswersUnder v' k' n' m' → (bound : List NamedKind) (s : Position) →
     Answer (bind_check name v v' bound s) (option_and_then (λ a. k' (bind_kind bound name a)) (k bound)) ((n s.bodies).fits && (n' s.bodies).fits) ((n s.bodies).deep + (n' s.bodies).deep) s.deep ((s.at + m) + m')
 unfolding bind_check
 bind_answers name v v' k k' n n' m m' h h' bound s =
@@ -223,7 +224,7 @@ closed_answers : {v : Verdict} {o : Option Kind} {f : Bool} {c b next : ℕ} (is
 closed_answers true at h = turn_answers kind.List h
 closed_answers false at h = expect_answers (wanted_kind kind.Unit) wanted.Unit at h
 
-list_answers : (is_map : Bool) (name : List ℕ) (v v' : Check) (k k' : Typing) (n n' : ℕ → Nesting) (m m' : ℕ) → AnswersUnder v k n m → AnswersUnder v' k' n' m' → (bound : List NamedKind) (s : Scope) →
+list_answers : (is_map : Bool) (name : List ℕ) (v v' : Check) (k k' : Typing) (n n' : ℕ → Nesting) (m m' : ℕ) → AnswersUnder v k n m → AnswersUnder v' k' n' m' → (bound : List NamedKind) (s : Position) →
     Answer (list_check is_map name v v' bound s) (option_and_then (λ a. closed_kind is_map (k' (bind_kind bound name a))) (option_and_then item_kind (k bound))) ((n s.bodies).fits && (n' (s.bodies + 1)).fits) ((n s.bodies).deep + (n' (s.bodies + 1)).deep) s.deep ((s.at + m) + m')
 unfolding list_check
 list_answers is_map name v v' k k' n n' m m' h h' bound s =
@@ -238,11 +239,11 @@ module _ (p : Program) (earlier : List Kind) where
   IsAnswered t = AnswersUnder (verdict_of p earlier t) (term_kind p earlier t) (nesting_of t) (terms_in t)
 
   abbrev step_answers : Term-F Term → Type 0
-  step_answers x = (bound : List NamedKind) (s : Scope) →
+  step_answers x = (bound : List NamedKind) (s : Position) →
       Answer (check_step p earlier (map-Term Term Check (verdict_of p earlier) x) bound s) (option_and_then small (layer_kind p earlier (map-Term Term Typing (term_kind p earlier) x) bound))
       (nesting_step (map-Term Term (ℕ → Nesting) nesting_of x) s.bodies).fits (nesting_step (map-Term Term (ℕ → Nesting) nesting_of x) s.bodies).deep s.deep (s.at + (1 + sum (parts_of (map-Term Term ℕ terms_in x))))
 
-  all_answers : {E : Type 0} (of : E → Term) → ((e : E) → IsAnswered (of e)) → (ts : List E) (bound : List NamedKind) (s : Scope) →
+  all_answers : {E : Type 0} (of : E → Term) → ((e : E) → IsAnswered (of e)) → (ts : List E) (bound : List NamedKind) (s : Position) →
       Answer (all_from (map (λ v. v bound) (map (verdict_of p earlier) (map of ts))) s) (unit_of_units (map (λ k. k bound) (map (term_kind p earlier) (map of ts))))
       (list_all (λ n. (n s.bodies).fits) (map nesting_of (map of ts))) (sum (map (λ n. (n s.bodies).deep) (map nesting_of (map of ts)))) s.deep (s.at + sum (map terms_in (map of ts)))
   all_answers of has [] bound s = answer_at (typed_answer kind.Unit s.deep s.at) refl refl (omega arith)
@@ -300,7 +301,7 @@ module _ (p : Program) (earlier : List Kind) where
   answered = ind-Term IsAnswered (λ x y is. subst (λ z. IsAnswered (roll-Term z)) is (rolled_answers _ (layer_answers (λ e. e.0) (λ e. e.1) y)))
 
 -- the number of the term behind one that has a kind
-pub next_at : (p : Program) (earlier : List Kind) (t : Term) (bound : List NamedKind) (s : Scope) {v : Verdict} {k : Kind} {d n : ℕ} → v ≡ verdict_of p earlier t bound s → v ≡ Typed k d n → n ≡ s.at + terms_in t
+pub next_at : (p : Program) (earlier : List Kind) (t : Term) (bound : List NamedKind) (s : Position) {v : Verdict} {k : Kind} {d n : ℕ} → v ≡ verdict_of p earlier t bound s → v ≡ Typed k d n → n ≡ s.at + terms_in t
 next_at p earlier t bound s {v} {k} {d} {n} is e =
     let told : Tells (Typed k d n) (term_kind p earlier t bound) (nesting_of t s.bodies).fits (nesting_of t s.bodies).deep s.deep (s.at + terms_in t) =
     subst (λ (x : Verdict). Tells x (term_kind p earlier t bound) (nesting_of t s.bodies).fits (nesting_of t s.bodies).deep s.deep (s.at + terms_in t)) (sym is ∙ e) (answered p earlier t bound s).tells in
@@ -313,17 +314,17 @@ typed_before turn wanted at (Typed j e m) k d n is =
 typed_before turn wanted at (Faulty t w) k d n is = absurd cc
 
 -- the same behind one that is wanted to be of a kind
-pub next_expected : (p : Program) (earlier : List Kind) (t : Term) (bound : List NamedKind) (s : Scope) (turn : Kind → Option Kind) (wanted : Wanted) (at : ℕ) {v x : Verdict} {k : Kind} {d n : ℕ} →
+pub next_expected : (p : Program) (earlier : List Kind) (t : Term) (bound : List NamedKind) (s : Position) (turn : Kind → Option Kind) (wanted : Wanted) (at : ℕ) {v x : Verdict} {k : Kind} {d n : ℕ} →
     v ≡ verdict_of p earlier t bound s → x ≡ expected turn wanted at v → x ≡ Typed k d n → n ≡ s.at + terms_in t
 next_expected p earlier t bound s turn wanted at {v} {x} {k} {d} {n} is turned e = next_at p earlier t bound s is (typed_before turn wanted at v k d n (sym turned ∙ e)).1
 
 -- one part of an `all` more
-pub all_step : (p : Program) (earlier : List Kind) (bound inner : List NamedKind) (ts : List Term) (i : ℕ) (t : Term) (s s' : Scope) {v x : Verdict} {k : Kind} {d n : ℕ} →
+pub all_step : (p : Program) (earlier : List Kind) (bound inner : List NamedKind) (ts : List Term) (i : ℕ) (t : Term) (s s' : Position) {v x : Verdict} {k : Kind} {d n : ℕ} →
     drop i ts ≡ t ∷ drop (i + 1) ts → inner ≡ bound → v ≡ verdict_of p earlier t inner s → x ≡ of_unit s.at v → x ≡ Typed k d n → s' ≡ behind s d n →
     all_from (map (λ t. verdict_of p earlier t bound) (drop (i + 1) ts)) s' ≡ all_from (map (λ t. verdict_of p earlier t bound) (drop i ts)) s
 all_step p earlier bound inner ts i t s s' {v} {x} {k} {d} {n} cons same is turned typed next =
-    let rest : List (Scope → Verdict) = map (λ t. verdict_of p earlier t bound) (drop (i + 1) ts) in
+    let rest : List (Position → Verdict) = map (λ t. verdict_of p earlier t bound) (drop (i + 1) ts) in
     let own : of_unit s.at (verdict_of p earlier t bound s) ≡ Typed k d n = ap (λ (b : List NamedKind). of_unit s.at (verdict_of p earlier t b s)) (sym same) ∙ ap (of_unit s.at) (sym is) ∙ sym turned ∙ typed in
-    ap (λ (z : Scope). all_from rest z) next
+    ap (λ (z : Position). all_from rest z) next
     ∙ sym (ap (λ (z : Verdict). then_typed z (λ k d n. all_from rest (behind s d n))) own)
     ∙ sym (ap (λ xs. all_from (map (λ t. verdict_of p earlier t bound) xs) s) cons)

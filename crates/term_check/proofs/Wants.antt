@@ -12,7 +12,7 @@ use Rattle.value_core.specs.declared.state.State.TheVariants.{Fine, Failed, Acti
 use Rattle.value_core.specs.declared.state.Triple.{Triple}
 use Rattle.value_core.specs.declared.value.Value.{Value}
 use Rattle.value_core.specs.declared.value.Value.TheVariants as value
-use Rattle.term_core.specs.Evaluation.{Bound, Given, Meaning, bind, fits, triple_of, wanted, looked_up, map_run, pair_run, bind_run, items_run, list_run, outcome_run, gate_run, all_run, build_run, output_run, term_step, eval}
+use Rattle.term_core.specs.Evaluation.{Bound, Context, Meaning, bind, fits, triple_of, wanted, looked_up, map_run, pair_run, bind_run, items_run, list_run, outcome_run, gate_run, all_run, build_run, output_run, term_step, eval}
 use Rattle.op_keys.specs.Names.{index_named}
 use Rattle.term_core.specs.Runs.{Run, stated, after, follow, follow_both, then_do, then_both}
 use Rattle.term_core.specs.States.{listed, passed, caught, observed, gated}
@@ -24,7 +24,7 @@ pub all_both : {X : Type 0} (P : X → Type 0) (xs ys : List X) → AllByRecursi
 all_both P [] ys h g = g
 all_both P (x ∷ xs) ys h g = (h.0, all_both P xs ys h.1 g)
 
-module _ (given : Given) (Q : ℕ → Type 0) where
+module _ (context : Context) (Q : ℕ → Type 0) where
   -- each triple that a run wants is of such an operation
   abbrev AreOf : Run → Type 0
   AreOf r = AllByRecursion (λ (t : Triple). Q t.op) r.wants
@@ -54,19 +54,19 @@ module _ (given : Given) (Q : ℕ → Type 0) where
   runs_of f [] h = tt
   runs_of f (x ∷ xs) h = all_both (λ (t : Triple). Q t.op) (f x).wants (flat_map (λ r. r.wants) (map f xs)) (h x) (runs_of f xs h)
 
-  look_of : (b : Bool) (meant : List ℕ → Value) (t : Triple) → Q t.op → AreOf (cond b (wanted given meant t) (stated (Failed given.node (codes "order too long"))))
+  look_of : (b : Bool) (meant : List ℕ → Value) (t : Triple) → Q t.op → AreOf (cond b (wanted context meant t) (stated (Failed context.node (codes "order too long"))))
   look_of true meant t q = (q, tt)
   look_of false meant t q = tt
 
-  looked_up_of : (meant : List ℕ → Value) (t : Triple) → Q t.op → AreOf (looked_up given meant t)
+  looked_up_of : (meant : List ℕ → Value) (t : Triple) → Q t.op → AreOf (looked_up context meant t)
   unfolding looked_up
-  looked_up_of meant t q = look_of (fits (slice_get given.program.ops t.op) t) meant t q
+  looked_up_of meant t q = look_of (fits (slice_get context.program.ops t.op) t) meant t q
 
   -- where an operation that a term names is such an operation
   abbrev IsOf : Term → Type 0
-  IsOf t = ((n : List ℕ) → names_in role.Op n t ≡ true → Q (index_named 0 (map (λ d. d.name) given.program.ops) n)) → (bound : Bound) → AreOf (eval given t bound)
+  IsOf t = ((n : List ℕ) → names_in role.Op n t ≡ true → Q (index_named 0 (map (λ d. d.name) context.program.ops) n)) → (bound : Bound) → AreOf (eval context t bound)
 
-  map_of : (f : Fun) (t : Meaning) (bound : Bound) → AreOf (t bound) → AreOf (map_run given f t bound)
+  map_of : (f : Fun) (t : Meaning) (bound : Bound) → AreOf (t bound) → AreOf (map_run context f t bound)
   unfolding map_run
   map_of f t bound h = h
 
@@ -74,7 +74,7 @@ module _ (given : Given) (Q : ℕ → Type 0) where
   unfolding outcome_run
   outcome_of turn t bound h = h
 
-  pair_of : (a b : Meaning) (bound : Bound) → AreOf (a bound) → AreOf (b bound) → AreOf (pair_run given a b bound)
+  pair_of : (a b : Meaning) (bound : Bound) → AreOf (a bound) → AreOf (b bound) → AreOf (pair_run context a b bound)
   unfolding pair_run
   pair_of a b bound h g = all_both (λ (t : Triple). Q t.op) (a bound).wants ((b bound).wants ++ []) h (all_both (λ (t : Triple). Q t.op) (b bound).wants [] g tt)
 
@@ -90,23 +90,23 @@ module _ (given : Given) (Q : ℕ → Type 0) where
   unfolding list_run items_run
   list_of made n a b bound h g = then_of (a bound) (λ v. items_run made n (items_in v) b bound) h (λ v. runs_of (λ x. b (bind bound n x)) (items_in v) (λ x. g (bind bound n x)))
 
-  build_of : (op : List ℕ) (k : Meaning) (bound : Bound) → AreOf (k bound) → Q (index_named 0 (map (λ d. d.name) given.program.ops) op) → AreOf (build_run given op k bound)
+  build_of : (op : List ℕ) (k : Meaning) (bound : Bound) → AreOf (k bound) → Q (index_named 0 (map (λ d. d.name) context.program.ops) op) → AreOf (build_run context op k bound)
   unfolding build_run
-  build_of op k bound h q = then_of (k bound) (λ v. looked_up given value.Words (triple_of given op (text_in v) [])) h (λ v. looked_up_of value.Words (triple_of given op (text_in v) []) q)
+  build_of op k bound h q = then_of (k bound) (λ v. looked_up context value.Words (triple_of context op (text_in v) [])) h (λ v. looked_up_of value.Words (triple_of context op (text_in v) []) q)
 
-  output_of : (op : List ℕ) (a b : Meaning) (bound : Bound) → AreOf (a bound) → AreOf (b bound) → Q (index_named 0 (map (λ d. d.name) given.program.ops) op) → AreOf (output_run given op a b bound)
+  output_of : (op : List ℕ) (a b : Meaning) (bound : Bound) → AreOf (a bound) → AreOf (b bound) → Q (index_named 0 (map (λ d. d.name) context.program.ops) op) → AreOf (output_run context op a b bound)
   unfolding output_run
   output_of op a b bound h g q =
-      then_both_of (a bound) (b bound) (λ v w. looked_up given (λ t. value.Unit) (triple_of given op (text_in v) (text_in w))) h g (λ v w. looked_up_of (λ t. value.Unit) (triple_of given op (text_in v) (text_in w)) q)
+      then_both_of (a bound) (b bound) (λ v w. looked_up context (λ t. value.Unit) (triple_of context op (text_in v) (text_in w))) h g (λ v w. looked_up_of (λ t. value.Unit) (triple_of context op (text_in v) (text_in w)) q)
 
   abbrev AllNamed : Bool → List ℕ → Type 0
-  AllNamed b n = b ≡ true → Q (index_named 0 (map (λ d. d.name) given.program.ops) n)
+  AllNamed b n = b ≡ true → Q (index_named 0 (map (λ d. d.name) context.program.ops) n)
 
   all_of : {E : Type 0} (of : E → Term) → ((e : E) → IsOf (of e)) → (ts : List E) → ((n : List ℕ) → AllNamed (list_any (λ b. b) (map (names_in role.Op n) (map of ts))) n) → (bound : Bound) →
-      AllByRecursion (λ (t : Triple). Q t.op) (flat_map (λ r. r.wants) (map (λ m. m bound) (map (eval given) (map of ts))))
+      AllByRecursion (λ (t : Triple). Q t.op) (flat_map (λ r. r.wants) (map (λ m. m bound) (map (eval context) (map of ts))))
   all_of of has [] q bound = tt
   all_of of has (t ∷ ts) q bound =
-      all_both (λ (t : Triple). Q t.op) (eval given (of t) bound).wants (flat_map (λ r. r.wants) (map (λ m. m bound) (map (eval given) (map of ts))))
+      all_both (λ (t : Triple). Q t.op) (eval context (of t) bound).wants (flat_map (λ r. r.wants) (map (λ m. m bound) (map (eval context) (map of ts))))
       (has t (λ n u. q n (or_left (names_in role.Op n (of t)) (list_any (λ b. b) (map (names_in role.Op n) (map of ts))) u)) bound)
       (all_of of has ts (λ n u. q n (or_right (names_in role.Op n (of t)) (list_any (λ b. b) (map (names_in role.Op n) (map of ts))) u)) bound)
 
@@ -118,43 +118,43 @@ module _ (given : Given) (Q : ℕ → Type 0) where
   itself n = (bytes_eq-Decides n n).1 refl
 
   layer_of : {E : Type 0} (of : E → Term) → ((e : E) → IsOf (of e)) → (y : Term-F E) → ((n : List ℕ) → AllNamed (names_step role.Op n (map-Term Term Bool (names_in role.Op n) (map-Term E Term of y))) n) → (bound : Bound) →
-      AreOf (term_step given (map-Term Term Meaning (eval given) (map-Term E Term of y)) bound)
+      AreOf (term_step context (map-Term Term Meaning (eval context) (map-Term E Term of y)) bound)
   layer_of of has (Term-F.Return v) q bound = tt
   layer_of of has (Term-F.Fail k m) q bound = tt
   layer_of of has (Term-F.Input n) q bound = tt
   layer_of of has (Term-F.Node n) q bound = tt
   layer_of of has (Term-F.Var n) q bound = tt
-  layer_of of has (Term-F.Map f t) q bound = map_of f (eval given (of t)) bound (has t (λ n u. q n (or_left (names_in role.Op n (of t)) false u)) bound)
+  layer_of of has (Term-F.Map f t) q bound = map_of f (eval context (of t)) bound (has t (λ n u. q n (or_left (names_in role.Op n (of t)) false u)) bound)
   layer_of of has (Term-F.Pair a b) q bound =
-      pair_of (eval given (of a)) (eval given (of b)) bound (has a (λ n u. q n (or_left (names_in role.Op n (of a)) (names_in role.Op n (of b) || false) u)) bound)
+      pair_of (eval context (of a)) (eval context (of b)) bound (has a (λ n u. q n (or_left (names_in role.Op n (of a)) (names_in role.Op n (of b) || false) u)) bound)
       (has b (λ n u. q n (or_right (names_in role.Op n (of a)) (names_in role.Op n (of b) || false) (or_left (names_in role.Op n (of b)) false u))) bound)
   layer_of of has (Term-F.Bind m a b) q bound =
-      bind_of m (eval given (of a)) (eval given (of b)) bound (has a (λ n u. q n (or_left (names_in role.Op n (of a)) (names_in role.Op n (of b) || false) u)) bound)
+      bind_of m (eval context (of a)) (eval context (of b)) bound (has a (λ n u. q n (or_left (names_in role.Op n (of a)) (names_in role.Op n (of b) || false) u)) bound)
       (has b (λ n u. q n (or_right (names_in role.Op n (of a)) (names_in role.Op n (of b) || false) (or_left (names_in role.Op n (of b)) false u))))
   layer_of of has (Term-F.ListMap m a b) q bound =
-      list_of (listed given.node) m (eval given (of a)) (eval given (of b)) bound (has a (λ n u. q n (or_left (names_in role.Op n (of a)) (names_in role.Op n (of b) || false) u)) bound)
+      list_of (listed context.node) m (eval context (of a)) (eval context (of b)) bound (has a (λ n u. q n (or_left (names_in role.Op n (of a)) (names_in role.Op n (of b) || false) u)) bound)
       (has b (λ n u. q n (or_right (names_in role.Op n (of a)) (names_in role.Op n (of b) || false) (or_left (names_in role.Op n (of b)) false u))))
   layer_of of has (Term-F.ListIter m a b) q bound =
-      list_of passed m (eval given (of a)) (eval given (of b)) bound (has a (λ n u. q n (or_left (names_in role.Op n (of a)) (names_in role.Op n (of b) || false) u)) bound)
+      list_of passed m (eval context (of a)) (eval context (of b)) bound (has a (λ n u. q n (or_left (names_in role.Op n (of a)) (names_in role.Op n (of b) || false) u)) bound)
       (has b (λ n u. q n (or_right (names_in role.Op n (of a)) (names_in role.Op n (of b) || false) (or_left (names_in role.Op n (of b)) false u))))
-  layer_of of has (Term-F.Catch t) q bound = outcome_of caught (eval given (of t)) bound (has t (λ n u. q n (or_left (names_in role.Op n (of t)) false u)) bound)
-  layer_of of has (Term-F.State t) q bound = outcome_of observed (eval given (of t)) bound (has t (λ n u. q n (or_left (names_in role.Op n (of t)) false u)) bound)
+  layer_of of has (Term-F.Catch t) q bound = outcome_of caught (eval context (of t)) bound (has t (λ n u. q n (or_left (names_in role.Op n (of t)) false u)) bound)
+  layer_of of has (Term-F.State t) q bound = outcome_of observed (eval context (of t)) bound (has t (λ n u. q n (or_left (names_in role.Op n (of t)) false u)) bound)
   layer_of of has (Term-F.Gate a b) q bound =
-      gate_of (eval given (of a)) (eval given (of b)) bound (has a (λ n u. q n (or_left (names_in role.Op n (of a)) (names_in role.Op n (of b) || false) u)) bound)
+      gate_of (eval context (of a)) (eval context (of b)) bound (has a (λ n u. q n (or_left (names_in role.Op n (of a)) (names_in role.Op n (of b) || false) u)) bound)
       (has b (λ n u. q n (or_right (names_in role.Op n (of a)) (names_in role.Op n (of b) || false) (or_left (names_in role.Op n (of b)) false u))) bound)
-  layer_of of has (Term-F.All ts) q bound = all_run_of (map (λ m. m bound) (map (eval given) (map of ts))) (all_of of has ts q bound)
+  layer_of of has (Term-F.All ts) q bound = all_run_of (map (λ m. m bound) (map (eval context) (map of ts))) (all_of of has ts q bound)
   layer_of of has (Term-F.Build op k) q bound =
-      build_of op (eval given (of k)) bound (has k (λ n u. q n (or_right (bytes_eq op n) (names_in role.Op n (of k) || false) (or_left (names_in role.Op n (of k)) false u))) bound)
+      build_of op (eval context (of k)) bound (has k (λ n u. q n (or_right (bytes_eq op n) (names_in role.Op n (of k) || false) (or_left (names_in role.Op n (of k)) false u))) bound)
       (q op (or_left (bytes_eq op op) (names_in role.Op op (of k) || false) (itself op)))
   layer_of of has (Term-F.Output op a b) q bound =
-      output_of op (eval given (of a)) (eval given (of b)) bound
+      output_of op (eval context (of a)) (eval context (of b)) bound
       (has a (λ n u. q n (or_right (bytes_eq op n) (names_in role.Op n (of a) || (names_in role.Op n (of b) || false)) (or_left (names_in role.Op n (of a)) (names_in role.Op n (of b) || false) u))) bound)
       (has b (λ n u. q n (or_right (bytes_eq op n) (names_in role.Op n (of a) || (names_in role.Op n (of b) || false)) (or_right (names_in role.Op n (of a)) (names_in role.Op n (of b) || false) (or_left (names_in role.Op n (of b)) false u)))) bound)
       (q op (or_left (bytes_eq op op) (names_in role.Op op (of a) || (names_in role.Op op (of b) || false)) (itself op)))
 
-  rolled_of : (x : Term-F Term) → (((n : List ℕ) → AllNamed (names_step role.Op n (map-Term Term Bool (names_in role.Op n) x)) n) → (bound : Bound) → AreOf (term_step given (map-Term Term Meaning (eval given) x) bound)) → IsOf (roll-Term x)
+  rolled_of : (x : Term-F Term) → (((n : List ℕ) → AllNamed (names_step role.Op n (map-Term Term Bool (names_in role.Op n) x)) n) → (bound : Bound) → AreOf (term_step context (map-Term Term Meaning (eval context) x) bound)) → IsOf (roll-Term x)
   rolled_of x h q bound =
-      let e = ap (λ (m : Meaning). m bound) (fold-roll-Term Meaning (term_step given) x) in
+      let e = ap (λ (m : Meaning). m bound) (fold-roll-Term Meaning (term_step context) x) in
       subst AreOf (sym e) (h (λ n u. q n (fold-roll-Term Bool (names_step role.Op n) x ∙ u)) bound)
 
   pub wants_of : (t : Term) → IsOf t

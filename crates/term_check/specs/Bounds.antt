@@ -8,7 +8,7 @@ use Rattle.value_core.specs.declared.value.Kind.{Kind}
 use Rattle.value_core.specs.declared.value.Outcome.{Outcome-F}
 use Rattle.value_core.specs.declared.value.Value.{Value, Value-F, fold-Value}
 use Rattle.term_core.specs.Limits.{is_text}
-use Rattle.term_core.specs.Soundness.{literal_kind}
+use Rattle.value_core.specs.Kinds.{literal_kind}
 use Rattle.term_core.specs.States.{weight_limit}
 use Rattle.term_core.specs.World.{World}
 use Rattle.term_core.specs.declared.entries.Entry.{Entry}

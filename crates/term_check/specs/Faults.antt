@@ -13,11 +13,11 @@ use Rattle.term_check.specs.declared.fault.CheckWhat.{CheckWhat}
 use Rattle.term_check.specs.declared.fault.CheckWhat.TheVariants as what
 use Rattle.term_check.specs.declared.fault.FaultPlace.{FaultPlace}
 use Rattle.term_check.specs.declared.fault.FaultPlace.TheVariants as place
-use Rattle.term_check.specs.declared.verdict.Scope.{Scope}
+use Rattle.term_check.specs.declared.verdict.Position.{Position}
 use Rattle.term_check.specs.declared.verdict.Verdict.{Verdict}
 use Rattle.term_check.specs.declared.verdict.Verdict.TheVariants.{Typed, Faulty}
 
--- a name that isn't declared, at a place
+-- a name that isn't declared, at a site
 abbrev pub unknown : FaultPlace → List ℕ → CheckFault
 unknown at n = record { place = at; what = what.UnknownName n }
 
@@ -31,13 +31,17 @@ abbrev pub first_fault : {D : Type 0} → (ℕ → D → Option CheckFault) → 
 first_fault fault at [] = None
 first_fault fault at (d ∷ ds) = or_later (fault at d) (first_fault fault (at + 1) ds)
 
+-- the pool of what is declared in a pool
+abbrev pub pool_fault : {D : Type 0} → Program → (ℕ → FaultPlace) → (D → List ℕ) → ℕ → D → Option CheckFault
+pool_fault p site pool at d = if is_pool p (pool d) then None else Some (unknown (site at) (pool d))
+
 -- a client's pool
 abbrev pub client_fault : Program → ℕ → ClientDecl → Option CheckFault
-client_fault p at d = if is_pool p d.pool then None else Some (unknown (place.Client at) d.pool)
+client_fault p = pool_fault p place.Client (λ d. d.pool)
 
 -- a worker's pool
 abbrev pub worker_fault : Program → ℕ → WorkerDecl → Option CheckFault
-worker_fault p at d = if is_pool p d.pool then None else Some (unknown (place.Worker at) d.pool)
+worker_fault p = pool_fault p place.Worker (λ d. d.pool)
 
 -- an operation's pool, and then its client in that pool
 abbrev pub op_fault : Program → ℕ → OpDecl → Option CheckFault
@@ -46,7 +50,7 @@ op_fault p at d =
     else Some (unknown (place.Op at) d.pool)
 
 -- a node's whole term, with the terms in two list bodies that stand above it
-abbrev pub outermost : ℕ → Scope
+abbrev pub outermost : ℕ → Position
 outermost deep = record { bodies = 0; deep = deep; at = 0 }
 
 -- what follows a node whose term has a kind; else the term's fault
@@ -68,11 +72,11 @@ check_fault p =
     (or_later (first_fault (op_fault p) 0 p.ops)
     (node_fault p 0 [] 0 p.nodes)))
 
--- want of memory, whose cause is not told, or a fact
+-- out of memory, which says no cause, or a fact
 abbrev pub Tells : CheckWhat → Type 0 → Type 0
 Tells what.NoMemory cause = Unit {0}
 Tells w cause = cause
 
--- the fault is the first one, unless memory is wanting
+-- the fault is the first one, unless the check ran out of memory
 abbrev pub IsFirstFault : Program → CheckFault → Type 0
 IsFirstFault p f = Tells f.what (check_fault p ≡ Some f)

@@ -1,5 +1,5 @@
 -- What holds of sound programs.
-use Rattle.std.specs.Prelude.{◌≡◌, ◌↔◌, ℕ, ◌≤◌, ◌==◌, true, List, Option, Some, None, is_some, slice_get}
+use Rattle.std.specs.Prelude.{◌≡◌, ◌↔◌, ℕ, ◌≤◌, ◌==◌, true, List, length, Option, Some, None, is_some, slice_get}
 use Rattle.std.specs.List.{AllByRecursion, list_any}
 use Rattle.value_core.specs.FunctionKinds.{kind_given}
 use Rattle.value_core.specs.declared.function.Fun.{Fun}
@@ -9,6 +9,7 @@ use Rattle.value_core.specs.declared.value.Value.{Value}
 use Rattle.op_keys.specs.Levels.{rank}
 use Rattle.op_keys.specs.declared.declarations.OpDecl.{OpDecl}
 use Rattle.op_keys.specs.declared.level.Level.{Level}
+use Rattle.term_core.specs.Evaluation.{fits}
 use Rattle.term_core.specs.Fresh.{fresh}
 use Rattle.term_core.specs.Limits.{IsWithinLimits}
 use Rattle.term_core.specs.Soundness.{IsSound, node_kinds}
@@ -63,3 +64,14 @@ pub record IsReported (p : Program) (t : Triple) : Type 0 where
 -- a sound program wants only such triples
 abbrev pub WantsOnlyReported : Type 0
 WantsOnlyReported = (p : Program) (inputs : List Value) (w : World) → IsSound p → AllByRecursion (IsReported p) (fresh p inputs w).wants
+
+-- a triple whose key and value are within the limit of texts, and whose order has words that are short enough
+pub record IsWantable (p : Program) (t : Triple) : Type 0 where
+  pub key : length t.key ≤ 65536
+  pub value : length t.value ≤ 65536
+  pub order : fits (slice_get p.ops t.op) t ≡ true
+
+-- over inputs of their kinds and entries with short texts, a sound program wants only such triples
+abbrev pub WantsOnlyWantable : Type 0
+WantsOnlyWantable = (p : Program) (inputs : List Value) (w : World) →
+    IsSound p → AreProperInputs p.inputs inputs → HasShortEntries w → AllByRecursion (IsWantable p) (fresh p inputs w).wants

@@ -45,13 +45,17 @@ some_term test = fold-Term Bool (λ x. test x || list_any (λ b. b) (parts_of x)
 abbrev pub in_some_node : (Term-F Bool → Bool) → Program → Bool
 in_some_node test p = list_any (λ d. some_term test d.term) p.nodes
 
+-- whether some term names a declaration
+abbrev pub is_used : {D : Type 0} → Program → Role → (D → List ℕ) → D → Bool
+is_used p r named d = in_some_node (names_here r (named d)) p
+
 -- whether some term names an input
 abbrev pub is_used_input : Program → InputDecl → Bool
-is_used_input p d = in_some_node (names_here role.Input d.name) p
+is_used_input p = is_used p role.Input (λ d. d.name)
 
 -- whether some term looks up an operation
 abbrev pub is_used_op : Program → OpDecl → Bool
-is_used_op p d = in_some_node (names_here role.Op d.name) p
+is_used_op p = is_used p role.Op (λ d. d.name)
 
 -- the numbers of the declarations that pass a test, counted from a number on
 abbrev pub numbers_where : {D : Type 0} → (D → Bool) → ℕ → List D → List ℕ

@@ -6,21 +6,27 @@ use Rattle.value_core.specs.FunctionKinds.{kind_given}
 use Rattle.value_core.specs.declared.function.Fun.{Fun}
 use Rattle.value_core.specs.declared.value.Kind.{Kind}
 use Rattle.value_core.specs.declared.value.Kind.TheVariants as kind
-use Rattle.term_core.specs.Soundness.{NamedKind, bind_kind, fail_kind, input_kind, is_op, item_kind, innermost_kind, literal_kind, node_kind, wanted_kind}
+use Rattle.term_core.specs.Soundness.{NamedKind, bind_kind, fail_kind, input_kind, is_op, item_kind, innermost_kind, node_kind, wanted_kind}
+use Rattle.value_core.specs.Kinds.{literal_kind}
 use Rattle.term_core.specs.declared.program.Program.{Program}
 use Rattle.term_core.specs.declared.program.Term.{Term, Term-F, out-Term, map-Term, fold-Term}
 use Rattle.term_check.specs.Functions.{fun_wanted}
 use Rattle.term_check.specs.Verdicts.{inside, behind, in_body, then_typed, expected, turned_kind, named, nested, sized}
+use Rattle.term_check.specs.declared.context.Context.{Context}
 use Rattle.term_check.specs.declared.fault.CheckWhat.{CheckWhat}
 use Rattle.term_check.specs.declared.fault.CheckWhat.TheVariants as what
-use Rattle.term_check.specs.declared.verdict.Scope.{Scope}
+use Rattle.term_check.specs.declared.verdict.Position.{Position}
 use Rattle.term_check.specs.declared.verdict.Verdict.{Verdict}
 use Rattle.term_check.specs.declared.verdict.Verdict.TheVariants.{Typed}
 use Rattle.term_check.specs.declared.wanted.Wanted.TheVariants as wanted
 
 -- what the check of a term gives under kinds of bound values, the innermost last
 abbrev pub Check : Type 0
-Check = List NamedKind → Scope → Verdict
+Check = List NamedKind → Position → Verdict
+
+-- a check over the pipeline and the kinds of the nodes before
+abbrev pub within : Context → (Program → List Kind → Check) → Check
+within c check = check c.program.now c.earlier.now
 
 -- a fault where a test fails
 abbrev pub unless : Bool → CheckWhat → Option CheckWhat
@@ -55,7 +61,7 @@ kind_or_unit (Some k) = k
 kind_or_unit None = kind.Unit
 
 -- a term without parts
-abbrev pub leaf : Kind → Scope → Verdict
+abbrev pub leaf : Kind → Position → Verdict
 leaf k s = Typed k s.deep s.at
 
 -- a part that is wanted to be a text
@@ -100,8 +106,8 @@ outcome_check t bound s = turned_kind kind.Out (t bound s)
 unfoldable pub gate_check : Check → Check → Check
 gate_check on t bound s = then_typed (of_unit s.at (on bound s)) (λ k deep next. t bound (behind s deep next))
 
--- unit, where each part from a scope on is unit
-abbrev pub all_from : List (Scope → Verdict) → Scope → Verdict
+-- unit, where each part from a position on is unit
+abbrev pub all_from : List (Position → Verdict) → Position → Verdict
 all_from [] s = leaf kind.Unit s
 all_from (t ∷ ts) s = then_typed (of_unit s.at (t s)) (λ k deep next. all_from ts (behind s deep next))
 

@@ -2,17 +2,67 @@
 ghost use Rattle.std.specs.Prelude.{◌≡◌, ◌^◌, ◌<◌, ◌≤◌, [], None, length, map, sum, IfOk, IfErr, OnOk};
 ghost use Rattle.term_core.specs.Limits.{IsWithinLimits, terms_in};
 ghost use Rattle.term_core.specs.Soundness.{IsSound};
-ghost use Rattle.term_check.specs.Faults.{IsFirstFault, check_fault, client_fault, first_fault, node_fault, op_fault, or_later, unknown, worker_fault};
+ghost use Rattle.term_check.specs.Faults.{IsFirstFault, check_fault, first_fault, node_fault, op_fault, or_later, pool_fault, unknown};
 
 use crate::checked::Checked;
+use crate::context::Context;
 use crate::fault::{CheckFault, CheckWhat, FaultPlace};
-use crate::names::{Against, is_client, is_pool};
+use crate::names::{is_client, is_pool};
 use crate::typing::check_term;
-use crate::verdict::{Scope, Verdict};
+use crate::verdict::{Position, Verdict};
 use op_keys::{ClientDecl, OpDecl, WorkerDecl};
 use std::alloc::Global;
 use term_core::Program;
 use value_core::{Kind, ListOf, NoMemory, Text};
+
+/// What is declared in a pool.
+trait InPool {
+    ghost use Rattle.std.specs.Prelude.{◌≡◌, ℕ, List};
+    ghost use Rattle.term_check.specs.declared.fault.FaultPlace.{FaultPlace};
+
+    /// Its pool, and the place of one of this number.
+    ghost pool_of: { Self → List ℕ };
+
+    ghost site: { ℕ → FaultPlace };
+
+    fn pool(&self) -> &Text
+        ensures { result.now ≡ pool_of self.now };
+
+    fn place(number: u32) -> FaultPlace
+        ensures { result ≡ site number };
+}
+
+impl InPool for ClientDecl {
+    ghost use Rattle.term_check.specs.declared.fault.FaultPlace.TheVariants as place;
+
+    ghost pool_of = { λ d. d.pool };
+
+    ghost site = { place.Client };
+
+    fn pool(&self) -> &Text {
+        &self.pool
+    }
+
+    fn place(number: u32) -> FaultPlace {
+        FaultPlace::Client(number)
+    }
+}
+
+impl InPool for WorkerDecl {
+    ghost use Rattle.term_check.specs.declared.fault.FaultPlace.TheVariants as place;
+
+    ghost pool_of = { λ d. d.pool };
+
+    ghost site = { place.Worker };
+
+    fn pool(&self) -> &Text {
+        &self.pool
+    }
+
+    fn place(number: u32) -> FaultPlace {
+        FaultPlace::Worker(number)
+    }
+}
 
 fn unknown(alloc: Global, place: FaultPlace, name: &Text) -> Result<CheckFault, NoMemory>
     ensures { IfOk result (λ f. f ≡ unknown place name.now) }
@@ -23,29 +73,19 @@ fn unknown(alloc: Global, place: FaultPlace, name: &Text) -> Result<CheckFault, 
     })
 }
 
-/// The first client whose pool isn't declared.
-fn client_fault(alloc: Global, program: &Program) -> Result<Option<CheckFault>, NoMemory>
-    requires { length program.now.clients < 2 ^ 32 }
-    ensures { IfOk result (λ f. f ≡ first_fault (client_fault program.now) 0 program.now.clients) }
+/// The first client or worker whose pool isn't declared.
+fn pool_fault<D: InPool>(
+    alloc: Global,
+    program: &Program,
+    decls: &[D],
+) -> Result<Option<CheckFault>, NoMemory>
+    requires { length decls.now < 2 ^ 32 }
+    ensures { IfOk result (λ f. f ≡
+        first_fault (pool_fault program.now D.site D.pool_of) 0 decls.now) }
 {
-    for (i, client) in program.clients.as_slice().iter().enumerate() {
-        if !is_pool(program, &client.pool) {
-            let place = FaultPlace::Client(i as u32);
-            return Ok(Some(unknown(alloc, place, &client.pool)?));
-        }
-    }
-    Ok(None)
-}
-
-/// The first worker whose pool isn't declared.
-fn worker_fault(alloc: Global, program: &Program) -> Result<Option<CheckFault>, NoMemory>
-    requires { length program.now.workers < 2 ^ 32 }
-    ensures { IfOk result (λ f. f ≡ first_fault (worker_fault program.now) 0 program.now.workers) }
-{
-    for (i, worker) in program.workers.as_slice().iter().enumerate() {
-        if !is_pool(program, &worker.pool) {
-            let place = FaultPlace::Worker(i as u32);
-            return Ok(Some(unknown(alloc, place, &worker.pool)?));
+    for (i, decl) in decls.iter().enumerate() {
+        if !is_pool(program, decl.pool()) {
+            return Ok(Some(unknown(alloc, D::place(i as u32), decl.pool())?));
         }
     }
     Ok(None)
@@ -76,17 +116,18 @@ fn node_fault(alloc: Global, program: &Program) -> Result<Option<CheckFault>, No
     let mut earlier: ListOf<Kind> = ListOf::new(alloc);
     let mut deep = 0;
     for (i, node) in program.nodes.as_slice().iter().enumerate() {
-        let scope = Scope {
+        let position = Position {
             bodies: 0,
             deep,
             at: 0,
         };
         let mut bound = ListOf::new(alloc);
-        let against = Against {
+        let context = Context {
+            alloc,
             program,
             earlier: earlier.as_slice(),
         };
-        match check_term(alloc, &node.term, &against, &mut bound, scope)? {
+        match check_term(&context, &node.term, &mut bound, position)? {
             Verdict::Typed {
                 kind,
                 deep: deep_so_far,
@@ -120,10 +161,10 @@ pub(crate) fn program_fault(
     requires room { sum (map (λ d. terms_in d.term) program.now.nodes) < 2 ^ 32 }
     ensures { IfOk result (λ f. f ≡ check_fault program.now) }
 {
-    if let Some(fault) = client_fault(alloc, program)? {
+    if let Some(fault) = pool_fault(alloc, program, program.clients.as_slice())? {
         return Ok(Some(fault));
     }
-    if let Some(fault) = worker_fault(alloc, program)? {
+    if let Some(fault) = pool_fault(alloc, program, program.workers.as_slice())? {
         return Ok(Some(fault));
     }
     if let Some(fault) = op_fault(alloc, program)? {

@@ -10,13 +10,12 @@
 
 mod checked;
 mod checking;
+mod context;
 mod fault;
 mod functions;
 mod laws;
 mod names;
 mod report;
-#[cfg(test)]
-mod tests;
 mod typing;
 mod verdict;
 mod wanted;
@@ -25,8 +24,8 @@ pub use checked::Checked;
 pub use checking::check;
 pub use fault::{CheckFault, CheckWhat, FaultPlace};
 pub use laws::{
-    functions_take_what_they_want, only_reported_things_are_read, sound_states_have_their_kinds,
-    sound_without_fault,
+    functions_take_what_they_want, only_reported_things_are_read, only_short_triples_are_wanted,
+    sound_states_have_their_kinds, sound_without_fault,
 };
 pub use report::Report;
 pub use wanted::{Wanted, write_kind, write_wanted};

@@ -1,37 +1,19 @@
-//! The names in terms: what they stand for, and what is wrong with them.
+//! The names in terms: the kinds that they have, and what is wrong with them.
 ghost use Rattle.std.specs.Prelude.{◌≡◌, ◌&&◌, None, IfOk, is_some};
 ghost use Rattle.std.specs.List.{list_any};
 ghost use Rattle.std.specs.Option.{option_copied};
 ghost use Rattle.std.specs.Str.{bytes_eq};
 ghost use Rattle.term_core.specs.declared.program.Term.{out-Term};
-ghost use Rattle.term_core.specs.Soundness.{fail_kind, innermost_kind, input_kind, is_op, is_pool, is_client, literal_kind, node_kind};
+ghost use Rattle.term_core.specs.Soundness.{fail_kind, innermost_kind, input_kind, is_op, is_pool, is_client, node_kind};
 ghost use Rattle.term_check.specs.Typing.{is_list_layer, is_node, kind_or_unit, name_fault, node_name_fault, unless};
 
+use crate::context::Context;
 use crate::fault::CheckWhat;
-use op_keys::OpDecl;
+use op_keys::{OpDecl, index_of};
 use sqlite_items::Boxed;
 use std::alloc::Global;
-use term_core::{FailKind, NodeDecl, Program, Term, index_of};
-use value_core::{Kind, NoMemory, Text, Value};
-
-/// What a term is checked against: its program, and the kinds of the nodes above its own.
-#[derive(Clone, Copy)]
-pub(crate) struct Against<'a> {
-    pub(crate) program: &'a Program,
-    pub(crate) earlier: &'a [Kind],
-}
-
-/// The kind of a literal.
-pub(crate) fn literal_kind(alloc: Global, value: &Value) -> Result<Kind, NoMemory>
-    ensures { IfOk result (λ k. k ≡ literal_kind value.now) }
-{
-    match value {
-        Value::Words(_) => Ok(Kind::Text),
-        Value::Num(_) => Ok(Kind::Num),
-        Value::List(_) => Ok(Kind::List(Boxed::new(alloc, Kind::Text)?)),
-        _ => Ok(Kind::Unit),
-    }
-}
+use term_core::{FailKind, NodeDecl, Program, Term};
+use value_core::{Kind, NoMemory, Text, literal_kind};
 
 /// The kind that a failing term is of.
 pub(crate) fn fail_kind(alloc: Global, kind: FailKind) -> Result<Kind, NoMemory>
@@ -54,18 +36,19 @@ pub(crate) fn input_kind(
     ensures { IfOk result (λ k. k ≡ input_kind program.now name.now) }
 {
     let inputs = program.inputs.as_slice();
-    match inputs.get(index_of(inputs, name)) {
+    match inputs.get(index_of(inputs, name.as_str())) {
         Some(decl) => Ok(Some(literal_kind(alloc, &decl.value)?)),
         None => Ok(None),
     }
 }
 
 /// The kind of the earlier node of this name.
-pub(crate) fn node_kind<'a>(against: &Against<'a>, name: &Text) -> Option<&'a Kind>
-    ensures { option_copied result ≡ node_kind against.now.program.now against.now.earlier.now name.now }
+pub(crate) fn node_kind<'a>(context: &Context<'a>, name: &Text) -> Option<&'a Kind>
+    ensures { option_copied result ≡
+        node_kind context.now.program.now context.now.earlier.now name.now }
 {
-    let nodes = against.program.nodes.as_slice();
-    against.earlier.get(index_of(nodes, name))
+    let nodes = context.program.nodes.as_slice();
+    context.earlier.get(index_of(nodes, name.as_str()))
 }
 
 /// The kind that was bound to the name last.
@@ -91,7 +74,7 @@ pub(crate) fn copied_kind(alloc: Global, kind: Option<&Kind>) -> Result<Kind, No
     }
 }
 
-/// Whether an operation of this name is declared, an output or a build as told.
+/// Whether an output of this name is declared, or a build.
 fn is_op(program: &Program, name: &Text, output: bool) -> bool
     ensures { result ≡ is_op program.now name.now output }
 {
@@ -150,18 +133,16 @@ fn unknown_unless(alloc: Global, test: bool, name: &Text) -> Result<Option<Check
 }
 
 /// The fault of a node's name, unless it is an earlier node's.
-fn node_fault(
-    alloc: Global,
-    against: &Against<'_>,
-    name: &Text,
-) -> Result<Option<CheckWhat>, NoMemory>
-    ensures { IfOk result (λ w. w ≡ unless (is_some (node_kind against.now.program.now against.now.earlier.now name.now)) (node_name_fault against.now.program.now name.now)) }
+fn node_fault(context: &Context<'_>, name: &Text) -> Result<Option<CheckWhat>, NoMemory>
+    ensures { IfOk result (λ w. w ≡ unless
+        (is_some (node_kind context.now.program.now context.now.earlier.now name.now))
+        (node_name_fault context.now.program.now name.now)) }
 {
-    if node_kind(against, name).is_some() {
+    if node_kind(context, name).is_some() {
         return Ok(None);
     }
-    let name_copy = name.copy(alloc)?;
-    if is_node(against.program, name) {
+    let name_copy = name.copy(context.alloc)?;
+    if is_node(context.program, name) {
         Ok(Some(CheckWhat::ForwardName(name_copy)))
     } else {
         Ok(Some(CheckWhat::UnknownName(name_copy)))
@@ -170,28 +151,29 @@ fn node_fault(
 
 /// The fault of a term's own name.
 pub(crate) fn name_fault(
-    alloc: Global,
+    context: &Context<'_>,
     term: &Term,
-    against: &Against<'_>,
     bound: &[(Text, Kind)],
 ) -> Result<Option<CheckWhat>, NoMemory>
-    ensures { IfOk result (λ w. w ≡ name_fault against.now.program.now against.now.earlier.now (out-Term term.now) bound.now) }
+    ensures { IfOk result (λ w. w ≡
+        name_fault context.now.program.now context.now.earlier.now (out-Term term.now) bound.now) }
 {
+    let alloc = context.alloc;
     match term {
         Term::Input(name) => {
-            let is_input = input_kind(alloc, against.program, name)?.is_some();
+            let is_input = input_kind(alloc, context.program, name)?.is_some();
             unknown_unless(alloc, is_input, name)
         }
-        Term::Node(name) => node_fault(alloc, against, name),
+        Term::Node(name) => node_fault(context, name),
         Term::Var(name) => unknown_unless(alloc, bound_kind(bound, name).is_some(), name),
         Term::Build { op, key: _ } => {
-            unknown_unless(alloc, is_op(against.program, op, false), op)
+            unknown_unless(alloc, is_op(context.program, op, false), op)
         }
         Term::Output {
             op,
             key: _,
             value: _,
-        } => unknown_unless(alloc, is_op(against.program, op, true), op),
+        } => unknown_unless(alloc, is_op(context.program, op, true), op),
         _ => Ok(None),
     }
 }

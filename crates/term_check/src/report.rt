@@ -1,15 +1,15 @@
 //! What a program reads.
 ghost use Rattle.std.specs.Prelude.{◌≡◌, ◌^◌, ◌<◌, ◌≤◌, None, length, map, IfOk};
 ghost use Rattle.std.specs.List.{filter, list_any};
-ghost use Rattle.term_check.specs.Reports.{greatest_level, has_body, higher, in_some_node, is_used_input, is_used_op, names_here, numbers_where, some_term};
+ghost use Rattle.term_check.specs.Reports.{greatest_level, has_body, higher, in_some_node, is_input, is_op, is_used, is_used_input, is_used_op, names_here, numbers_where, some_term};
 
-use op_keys::{Level, permitted};
+use op_keys::{Level, Named, permitted};
 use std::alloc::Global;
 use term_core::{Program, Term};
 use value_core::{ListOf, NoMemory, Text};
 
-/// What a program reads, whatever its inputs and entries are. Inputs and operations are told by
-/// their numbers, in order of declaration.
+/// What a program reads, whatever its inputs and entries are. Inputs and operations are
+/// identified by their numbers, in order of declaration.
 #[derive(Drop)]
 pub struct Report {
     /// The inputs that some term names.
@@ -22,11 +22,31 @@ pub struct Report {
     pub dynamic: bool,
 }
 
-/// What a name in a term is looked for as.
+/// What a name in a term is taken for.
 #[derive(Clone, Copy, Debug, PartialEq, Eq)]
 enum Role {
     Input,
     Op,
+}
+
+impl Role {
+    fn is_input(self) -> bool
+        ensures { result ≡ is_input self }
+    {
+        match self {
+            Role::Input => true,
+            Role::Op => false,
+        }
+    }
+
+    fn is_op(self) -> bool
+        ensures { result ≡ is_op self }
+    {
+        match self {
+            Role::Input => false,
+            Role::Op => true,
+        }
+    }
 }
 
 /// Whether a term, or a term in it, names an input or looks up an operation.
@@ -36,33 +56,21 @@ fn names(term: &Term, role: Role, name: &Text) -> bool
 {
     match term {
         Term::Return(_) => false,
-        Term::Fail {
-            kind: _,
-            message: _,
-        } => false,
-        Term::Input(input) => match role {
-            Role::Input => input.is(name),
-            Role::Op => false,
-        },
+        Term::Fail { .. } => false,
+        Term::Input(input) => role.is_input() && input.is(name),
         Term::Node(_) => false,
         Term::Var(_) => false,
-        Term::Map { fun: _, term } => names(term.get(), role, name),
+        Term::Map { term, .. } => names(term.get(), role, name),
         Term::Pair(a, b) => names(a.get(), role, name) || names(b.get(), role, name),
-        Term::Bind {
-            name: _,
-            left,
-            body,
-        } => names(left.get(), role, name) || names(body.get(), role, name),
-        Term::ListMap {
-            name: _,
-            list,
-            body,
-        } => names(list.get(), role, name) || names(body.get(), role, name),
-        Term::ListIter {
-            name: _,
-            list,
-            body,
-        } => names(list.get(), role, name) || names(body.get(), role, name),
+        Term::Bind { left, body, .. } => {
+            names(left.get(), role, name) || names(body.get(), role, name)
+        }
+        Term::ListMap { list, body, .. } => {
+            names(list.get(), role, name) || names(body.get(), role, name)
+        }
+        Term::ListIter { list, body, .. } => {
+            names(list.get(), role, name) || names(body.get(), role, name)
+        }
         Term::Catch(term) => names(term.get(), role, name),
         Term::State(term) => names(term.get(), role, name),
         Term::Gate(on, term) => names(on.get(), role, name) || names(term.get(), role, name),
@@ -74,16 +82,12 @@ fn names(term: &Term, role: Role, name: &Text) -> bool
             }
             false
         }
-        Term::Build { op, key } => match role {
-            Role::Input => names(key.get(), role, name),
-            Role::Op => op.is(name) || names(key.get(), role, name),
-        },
-        Term::Output { op, key, value } => match role {
-            Role::Input => names(key.get(), role, name) || names(value.get(), role, name),
-            Role::Op => {
-                op.is(name) || names(key.get(), role, name) || names(value.get(), role, name)
-            }
-        },
+        Term::Build { op, key } => { role.is_op() && op.is(name) || names(key.get(), role, name) }
+        Term::Output { op, key, value } => {
+            role.is_op() && op.is(name)
+                || names(key.get(), role, name)
+                || names(value.get(), role, name)
+        }
     }
 }
 
@@ -94,30 +98,15 @@ fn has_bodies(term: &Term) -> bool
 {
     match term {
         Term::Return(_) => false,
-        Term::Fail {
-            kind: _,
-            message: _,
-        } => false,
+        Term::Fail { .. } => false,
         Term::Input(_) => false,
         Term::Node(_) => false,
         Term::Var(_) => false,
         Term::Map { fun: _, term } => has_bodies(term.get()),
         Term::Pair(a, b) => has_bodies(a.get()) || has_bodies(b.get()),
-        Term::Bind {
-            name: _,
-            left: _,
-            body: _,
-        } => true,
-        Term::ListMap {
-            name: _,
-            list: _,
-            body: _,
-        } => true,
-        Term::ListIter {
-            name: _,
-            list: _,
-            body: _,
-        } => true,
+        Term::Bind { .. } => true,
+        Term::ListMap { .. } => true,
+        Term::ListIter { .. } => true,
         Term::Catch(term) => has_bodies(term.get()),
         Term::State(term) => has_bodies(term.get()),
         Term::Gate(on, term) => has_bodies(on.get()) || has_bodies(term.get()),
@@ -146,18 +135,33 @@ fn is_named(program: &Program, role: Role, name: &Text) -> bool
     false
 }
 
-/// The inputs that some term names.
-pub(crate) fn used_inputs(alloc: Global, program: &Program) -> Result<ListOf<u32>, NoMemory>
-    requires { length program.now.inputs < 2 ^ 32 }
-    ensures { IfOk result (λ ns. ns ≡ numbers_where (is_used_input program.now) 0 program.now.inputs) }
+/// The declarations that some term names, by their numbers.
+fn used<D: Named>(
+    alloc: Global,
+    program: &Program,
+    role: Role,
+    decls: &[D],
+) -> Result<ListOf<u32>, NoMemory>
+    requires { length decls.now < 2 ^ 32 }
+    ensures { IfOk result (λ ns. ns ≡
+        numbers_where (is_used program.now role D.named) 0 decls.now) }
 {
     let mut numbers = ListOf::new(alloc);
-    for (i, input) in program.inputs.as_slice().iter().enumerate() {
-        if is_named(program, Role::Input, &input.name) {
+    for (i, decl) in decls.iter().enumerate() {
+        if is_named(program, role, decl.name()) {
             numbers.push(i as u32)?;
         }
     }
     Ok(numbers)
+}
+
+/// The inputs that some term names.
+pub(crate) fn used_inputs(alloc: Global, program: &Program) -> Result<ListOf<u32>, NoMemory>
+    requires { length program.now.inputs < 2 ^ 32 }
+    ensures { IfOk result (λ ns. ns ≡
+        numbers_where (is_used_input program.now) 0 program.now.inputs) }
+{
+    used(alloc, program, Role::Input, program.inputs.as_slice())
 }
 
 /// The operations that some term looks up.
@@ -165,13 +169,7 @@ pub(crate) fn used_ops(alloc: Global, program: &Program) -> Result<ListOf<u32>, 
     requires { length program.now.ops < 2 ^ 32 }
     ensures { IfOk result (λ ns. ns ≡ numbers_where (is_used_op program.now) 0 program.now.ops) }
 {
-    let mut numbers = ListOf::new(alloc);
-    for (i, op) in program.ops.as_slice().iter().enumerate() {
-        if is_named(program, Role::Op, &op.name) {
-            numbers.push(i as u32)?;
-        }
-    }
-    Ok(numbers)
+    used(alloc, program, Role::Op, program.ops.as_slice())
 }
 
 /// The higher of two levels.
@@ -187,7 +185,8 @@ fn higher(found: Option<Level>, level: Level) -> Level
 
 /// The greatest level of the operations that some term looks up.
 pub(crate) fn greatest_level(program: &Program) -> Option<Level>
-    ensures { result ≡ greatest_level None (map (λ d. d.level) (filter (is_used_op program.now) program.now.ops)) }
+    ensures { result ≡ greatest_level None
+        (map (λ d. d.level) (filter (is_used_op program.now) program.now.ops)) }
 {
     let mut found = None;
     for op in program.ops.as_slice() {

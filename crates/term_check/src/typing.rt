@@ -3,29 +3,53 @@ ghost use Rattle.std.specs.Prelude.{◌≡◌, ◌+◌, ◌^◌, ◌<◌, ◌≤
 ghost use Rattle.term_core.specs.declared.program.Term.{out-Term};
 ghost use Rattle.term_core.specs.Limits.{terms_in};
 ghost use Rattle.term_core.specs.Soundness.{bind_kind};
-ghost use Rattle.term_check.specs.Typing.{all_from, bind_check, closed, gate_check, is_list_layer, list_check, output_check, pair_check, parts_verdict, verdict_of};
+ghost use Rattle.term_check.specs.Typing.{all_from, bind_check, closed, gate_check, is_list_layer, list_check, output_check, pair_check, parts_verdict, verdict_of, within};
 
+use crate::context::Context;
 use crate::fault::CheckWhat;
 use crate::names::{
-    Against, bound_kind, copied_kind, fail_kind, input_kind, is_list, literal_kind, name_fault,
-    node_kind,
+    bound_kind, copied_kind, fail_kind, input_kind, is_list, name_fault, node_kind,
 };
 use crate::verdict::{
-    Scope, Verdict, as_kind, items_in, listed, mapped, of_kind, outcome_of, paired, sized,
+    Position, Verdict, Wrapping, as_kind, items_in, mapped, of_kind, paired, sized, wrapped,
 };
 use crate::wanted::Wanted;
+use sqlite_items::Boxed;
 use std::alloc::Global;
 use term_core::Term;
-use value_core::{Kind, ListOf, NoMemory, Text};
+use value_core::{Kind, ListOf, NoMemory, Text, literal_kind};
+
+/// A term that is checked under a kind that is bound to this name.
+#[derive(Clone, Copy)]
+struct Body<'a> {
+    name: &'a Text,
+    term: &'a Term,
+    /// Whether the list term around it makes a list of its values.
+    is_map: bool,
+}
+
+impl<'a> Body<'a> {
+    fn new(name: &'a Text, body: &'a Boxed<Term>, is_map: bool) -> Body<'a>
+        ensures name { result.name.now ≡ name.now }
+        ensures term { result.term.now ≡ body.now }
+        ensures is_map { result.is_map ≡ is_map }
+    {
+        Body {
+            name,
+            term: body.get(),
+            is_map,
+        }
+    }
+}
 
 /// A term without parts.
-fn leaf(kind: Kind, scope: Scope) -> Verdict
-    ensures { result ≡ Verdict.Typed kind scope.deep scope.at }
+fn leaf(kind: Kind, position: Position) -> Verdict
+    ensures { result ≡ Verdict.Typed kind position.deep position.at }
 {
     Verdict::Typed {
         kind,
-        deep: scope.deep,
-        next: scope.at,
+        deep: position.deep,
+        next: position.at,
     }
 }
 
@@ -33,108 +57,111 @@ fn leaf(kind: Kind, scope: Scope) -> Verdict
 #[cycle(checking)]
 #[tactic(auto, using(crate::proofs::Checks::verdict_of_is, crate::proofs::Checks::one_term))]
 pub(crate) fn check_term(
-    alloc: Global,
+    context: &Context<'_>,
     term: &Term,
-    against: &Against<'_>,
     bound: &mut ListOf<(Text, Kind)>,
-    scope: Scope,
+    position: Position,
 ) -> Result<Verdict, NoMemory>
-    requires { scope.at + terms_in term.now < 2 ^ 32 }
-    ensures verdict { IfOk result (λ v. v ≡ verdict_of against.now.program.now against.now.earlier.now term.now bound.old scope) }
+    requires { position.at + terms_in term.now < 2 ^ 32 }
+    ensures verdict { IfOk result (λ v. v ≡ within context.now
+        (λ p e. verdict_of p e term.now) bound.old position) }
     ensures bound { OnOk result (bound.new ≡ bound.old) }
 {
-    if let Some(what) = name_fault(alloc, term, against, bound.as_slice())? {
+    if let Some(what) = name_fault(context, term, bound.as_slice())? {
         return Ok(Verdict::Faulty {
-            term: scope.at,
+            term: position.at,
             what,
         });
     }
-    if scope.is_nested(is_list(term)) {
+    if position.is_nested(is_list(term)) {
         return Ok(Verdict::Faulty {
-            term: scope.at,
+            term: position.at,
             what: CheckWhat::ListNesting,
         });
     }
-    let verdict = check_parts(alloc, term, against, bound, scope.inside())?;
-    sized(scope.at, verdict)
+    let verdict = check_parts(context, term, bound, position.inside())?;
+    sized(position.at, verdict)
 }
 
 /// Checks the parts of a term, whose name is known and which may stand where it does.
 #[cycle(checking)]
 #[tactic(auto, using(crate::proofs::Checks::parts_are, crate::proofs::Checks::terms_are), unfolding(crate::specs::Typing::map_check, crate::specs::Typing::outcome_check, crate::specs::Typing::build_check))]
 fn check_parts(
-    alloc: Global,
+    context: &Context<'_>,
     term: &Term,
-    against: &Against<'_>,
     bound: &mut ListOf<(Text, Kind)>,
-    scope: Scope,
+    position: Position,
 ) -> Result<Verdict, NoMemory>
-    requires room { scope.at + terms_in term.now ≤ 2 ^ 32 }
-    requires lists { is_list_layer (out-Term term.now) ≡ true → scope.bodies < 2 }
-    ensures verdict { IfOk result (λ v. v ≡ parts_verdict against.now.program.now against.now.earlier.now term.now bound.old scope) }
+    requires room { position.at + terms_in term.now ≤ 2 ^ 32 }
+    requires lists { is_list_layer (out-Term term.now) ≡ true → position.bodies < 2 }
+    ensures verdict { IfOk result (λ v. v ≡ within context.now
+        (λ p e. parts_verdict p e term.now) bound.old position) }
     ensures bound { OnOk result (bound.new ≡ bound.old) }
 {
     match term {
-        Term::Return(value) => Ok(leaf(literal_kind(alloc, value)?, scope)),
-        Term::Fail { kind, message: _ } => Ok(leaf(fail_kind(alloc, *kind)?, scope)),
+        Term::Return(value) => Ok(leaf(literal_kind(context.alloc, value)?, position)),
+        Term::Fail { kind, message: _ } => Ok(leaf(fail_kind(context.alloc, *kind)?, position)),
         Term::Input(name) => {
-            let kind = input_kind(alloc, against.program, name)?;
-            Ok(leaf(kind.unwrap_or(Kind::Unit), scope))
+            let kind = input_kind(context.alloc, context.program, name)?;
+            Ok(leaf(kind.unwrap_or(Kind::Unit), position))
         }
-        Term::Node(name) => Ok(leaf(copied_kind(alloc, node_kind(against, name))?, scope)),
+        Term::Node(name) => Ok(leaf(
+            copied_kind(context.alloc, node_kind(context, name))?,
+            position,
+        )),
         Term::Var(name) => {
-            let kind = copied_kind(alloc, bound_kind(bound.as_slice(), name))?;
-            Ok(leaf(kind, scope))
+            let kind = copied_kind(context.alloc, bound_kind(bound.as_slice(), name))?;
+            Ok(leaf(kind, position))
         }
         Term::Map { fun, term } => {
-            let part = check_term(alloc, term.get(), against, bound, scope)?;
-            mapped(alloc, scope.at, part, *fun)
+            let part = check_term(context, term.get(), bound, position)?;
+            mapped(context.alloc, position.at, part, *fun)
         }
-        Term::Pair(a, b) => check_pair(alloc, a.get(), b.get(), against, bound, scope),
+        Term::Pair(a, b) => check_pair(context, a.get(), b.get(), bound, position),
         Term::Bind { name, left, body } => {
-            check_bind(alloc, name, left.get(), body.get(), against, bound, scope)
+            check_bind(
+                context,
+                left.get(),
+                Body::new(name, body, false),
+                bound,
+                position,
+            )
         }
         Term::ListMap { name, list, body } => {
             check_list(
-                alloc,
-                true,
-                name,
+                context,
                 list.get(),
-                body.get(),
-                against,
+                Body::new(name, body, true),
                 bound,
-                scope,
+                position,
             )
         }
         Term::ListIter { name, list, body } => {
             check_list(
-                alloc,
-                false,
-                name,
+                context,
                 list.get(),
-                body.get(),
-                against,
+                Body::new(name, body, false),
                 bound,
-                scope,
+                position,
             )
         }
         Term::Catch(term) => {
-            let part = check_term(alloc, term.get(), against, bound, scope)?;
-            outcome_of(alloc, part)
+            let part = check_term(context, term.get(), bound, position)?;
+            wrapped(context.alloc, Wrapping::Outcome, part)
         }
         Term::State(term) => {
-            let part = check_term(alloc, term.get(), against, bound, scope)?;
-            outcome_of(alloc, part)
+            let part = check_term(context, term.get(), bound, position)?;
+            wrapped(context.alloc, Wrapping::Outcome, part)
         }
-        Term::Gate(on, term) => check_gate(alloc, on.get(), term.get(), against, bound, scope),
-        Term::All(terms) => check_all(alloc, terms.as_slice(), against, bound, scope),
+        Term::Gate(on, term) => check_gate(context, on.get(), term.get(), bound, position),
+        Term::All(terms) => check_all(context, terms.as_slice(), bound, position),
         Term::Build { op: _, key } => {
-            let part = check_term(alloc, key.get(), against, bound, scope)?;
-            let key = of_kind(scope.at, part, &Kind::Text, Wanted::Text);
+            let part = check_term(context, key.get(), bound, position)?;
+            let key = of_kind(position.at, part, &Kind::Text, Wanted::Text);
             Ok(as_kind(key, Kind::Text))
         }
         Term::Output { op: _, key, value } => {
-            check_output(alloc, key.get(), value.get(), against, bound, scope)
+            check_output(context, key.get(), value.get(), bound, position)
         }
     }
 }
@@ -143,21 +170,21 @@ fn check_parts(
 #[cycle(checking)]
 #[tactic(auto, unfolding(crate::specs::Typing::pair_check))]
 fn check_pair(
-    alloc: Global,
+    context: &Context<'_>,
     a: &Term,
     b: &Term,
-    against: &Against<'_>,
     bound: &mut ListOf<(Text, Kind)>,
-    scope: Scope,
+    position: Position,
 ) -> Result<Verdict, NoMemory>
-    requires { scope.at + (terms_in a.now + terms_in b.now) < 2 ^ 32 }
-    ensures verdict { IfOk result (λ v. v ≡ pair_check (verdict_of against.now.program.now against.now.earlier.now a.now) (verdict_of against.now.program.now against.now.earlier.now b.now) bound.old scope) }
+    requires { position.at + (terms_in a.now + terms_in b.now) < 2 ^ 32 }
+    ensures verdict { IfOk result (λ v. v ≡ within context.now
+        (λ p e. pair_check (verdict_of p e a.now) (verdict_of p e b.now)) bound.old position) }
     ensures bound { OnOk result (bound.new ≡ bound.old) }
 {
-    match check_term(alloc, a, against, bound, scope)? {
+    match check_term(context, a, bound, position)? {
         Verdict::Typed { kind, deep, next } => {
-            let second = check_term(alloc, b, against, bound, scope.behind(deep, next))?;
-            paired(alloc, kind, second)
+            let second = check_term(context, b, bound, position.behind(deep, next))?;
+            paired(context.alloc, kind, second)
         }
         Verdict::Faulty { term, what } => Ok(Verdict::Faulty { term, what }),
     }
@@ -166,20 +193,20 @@ fn check_pair(
 /// A body, under a kind that is bound to a name.
 #[cycle(checking)]
 fn check_under(
-    alloc: Global,
-    name: &Text,
+    context: &Context<'_>,
     kind: Kind,
-    body: &Term,
-    against: &Against<'_>,
+    body: Body<'_>,
     bound: &mut ListOf<(Text, Kind)>,
-    scope: Scope,
+    position: Position,
 ) -> Result<Verdict, NoMemory>
-    requires { scope.at + terms_in body.now < 2 ^ 32 }
-    ensures verdict { IfOk result (λ v. v ≡ verdict_of against.now.program.now against.now.earlier.now body.now (bind_kind bound.old name.now kind) scope) }
+    requires { position.at + terms_in body.term.now < 2 ^ 32 }
+    ensures verdict { IfOk result (λ v. v ≡ within context.now
+        (λ p e b. verdict_of p e body.entry.term.now (bind_kind b body.entry.name.now kind))
+        bound.old position) }
     ensures bound { OnOk result (bound.new ≡ bound.old) }
 {
-    bound.push((name.copy(alloc)?, kind))?;
-    let verdict = check_term(alloc, body, against, bound, scope)?;
+    bound.push((body.name.copy(context.alloc)?, kind))?;
+    let verdict = check_term(context, body.term, bound, position)?;
     let _ = bound.pop();
     Ok(verdict)
 }
@@ -188,22 +215,23 @@ fn check_under(
 #[cycle(checking)]
 #[tactic(auto, unfolding(crate::specs::Typing::bind_check))]
 fn check_bind(
-    alloc: Global,
-    name: &Text,
+    context: &Context<'_>,
     left: &Term,
-    body: &Term,
-    against: &Against<'_>,
+    body: Body<'_>,
     bound: &mut ListOf<(Text, Kind)>,
-    scope: Scope,
+    position: Position,
 ) -> Result<Verdict, NoMemory>
-    requires { scope.at + (terms_in left.now + terms_in body.now) < 2 ^ 32 }
-    ensures verdict { IfOk result (λ v. v ≡ bind_check name.now (verdict_of against.now.program.now against.now.earlier.now left.now) (verdict_of against.now.program.now against.now.earlier.now body.now) bound.old scope) }
+    requires { position.at + (terms_in left.now + terms_in body.term.now) < 2 ^ 32 }
+    ensures verdict { IfOk result (λ v. v ≡ within context.now
+        (λ p e.
+        bind_check body.entry.name.now (verdict_of p e left.now) (verdict_of p e body.entry.term.now))
+        bound.old position) }
     ensures bound { OnOk result (bound.new ≡ bound.old) }
 {
-    match check_term(alloc, left, against, bound, scope)? {
+    match check_term(context, left, bound, position)? {
         Verdict::Typed { kind, deep, next } => {
-            let scope = scope.behind(deep, next);
-            check_under(alloc, name, kind, body, against, bound, scope)
+            let position = position.behind(deep, next);
+            check_under(context, kind, body, bound, position)
         }
         Verdict::Faulty { term, what } => Ok(Verdict::Faulty { term, what }),
     }
@@ -214,7 +242,7 @@ fn close(alloc: Global, is_map: bool, at: u32, body: Verdict) -> Result<Verdict,
     ensures { IfOk result (λ v. v ≡ closed is_map at body) }
 {
     if is_map {
-        listed(alloc, body)
+        wrapped(alloc, Wrapping::List, body)
     } else {
         Ok(of_kind(at, body, &Kind::Unit, Wanted::Unit))
     }
@@ -224,26 +252,27 @@ fn close(alloc: Global, is_map: bool, at: u32, body: Verdict) -> Result<Verdict,
 #[cycle(checking)]
 #[tactic(auto, unfolding(crate::specs::Typing::list_check))]
 fn check_list(
-    alloc: Global,
-    is_map: bool,
-    name: &Text,
+    context: &Context<'_>,
     list: &Term,
-    body: &Term,
-    against: &Against<'_>,
+    body: Body<'_>,
     bound: &mut ListOf<(Text, Kind)>,
-    scope: Scope,
+    position: Position,
 ) -> Result<Verdict, NoMemory>
-    requires room { scope.at + (terms_in list.now + terms_in body.now) < 2 ^ 32 }
-    requires lists { scope.bodies < 2 }
-    ensures verdict { IfOk result (λ v. v ≡ list_check is_map name.now (verdict_of against.now.program.now against.now.earlier.now list.now) (verdict_of against.now.program.now against.now.earlier.now body.now) bound.old scope) }
+    requires room { position.at + (terms_in list.now + terms_in body.term.now) < 2 ^ 32 }
+    requires lists { position.bodies < 2 }
+    ensures verdict { IfOk result (λ v. v ≡ within context.now
+        (λ p e. list_check body.entry.is_map body.entry.name.now
+        (verdict_of p e list.now) (verdict_of p e body.entry.term.now))
+        bound.old position) }
     ensures bound { OnOk result (bound.new ≡ bound.old) }
 {
-    let list = check_term(alloc, list, against, bound, scope)?;
-    match items_in(alloc, scope.at, list)? {
+    let list = check_term(context, list, bound, position)?;
+    match items_in(context.alloc, position.at, list)? {
         Verdict::Typed { kind, deep, next } => {
-            let scope = scope.in_body(deep, next);
-            let body = check_under(alloc, name, kind, body, against, bound, scope)?;
-            close(alloc, is_map, next, body)
+            let position = position.in_body(deep, next);
+            let is_map = body.is_map;
+            let verdict = check_under(context, kind, body, bound, position)?;
+            close(context.alloc, is_map, next, verdict)
         }
         Verdict::Faulty { term, what } => Ok(Verdict::Faulty { term, what }),
     }
@@ -253,24 +282,24 @@ fn check_list(
 #[cycle(checking)]
 #[tactic(auto, unfolding(crate::specs::Typing::gate_check))]
 fn check_gate(
-    alloc: Global,
+    context: &Context<'_>,
     on: &Term,
     term: &Term,
-    against: &Against<'_>,
     bound: &mut ListOf<(Text, Kind)>,
-    scope: Scope,
+    position: Position,
 ) -> Result<Verdict, NoMemory>
-    requires { scope.at + (terms_in on.now + terms_in term.now) < 2 ^ 32 }
-    ensures verdict { IfOk result (λ v. v ≡ gate_check (verdict_of against.now.program.now against.now.earlier.now on.now) (verdict_of against.now.program.now against.now.earlier.now term.now) bound.old scope) }
+    requires { position.at + (terms_in on.now + terms_in term.now) < 2 ^ 32 }
+    ensures verdict { IfOk result (λ v. v ≡ within context.now
+        (λ p e. gate_check (verdict_of p e on.now) (verdict_of p e term.now)) bound.old position) }
     ensures bound { OnOk result (bound.new ≡ bound.old) }
 {
-    let on = check_term(alloc, on, against, bound, scope)?;
-    match of_kind(scope.at, on, &Kind::Unit, Wanted::Unit) {
+    let on = check_term(context, on, bound, position)?;
+    match of_kind(position.at, on, &Kind::Unit, Wanted::Unit) {
         Verdict::Typed {
             kind: _,
             deep,
             next,
-        } => check_term(alloc, term, against, bound, scope.behind(deep, next)),
+        } => check_term(context, term, bound, position.behind(deep, next)),
         Verdict::Faulty { term, what } => Ok(Verdict::Faulty { term, what }),
     }
 }
@@ -278,54 +307,55 @@ fn check_gate(
 /// Unit, where each part is unit.
 #[cycle(checking)]
 fn check_all(
-    alloc: Global,
+    context: &Context<'_>,
     terms: &[Term],
-    against: &Against<'_>,
     bound: &mut ListOf<(Text, Kind)>,
-    scope: Scope,
+    position: Position,
 ) -> Result<Verdict, NoMemory>
-    requires { scope.at + sum (map terms_in terms.now) < 2 ^ 32 }
-    ensures verdict { IfOk result (λ v. v ≡ all_from (map (λ t. verdict_of against.now.program.now against.now.earlier.now t bound.old) terms.now) scope) }
+    requires { position.at + sum (map terms_in terms.now) < 2 ^ 32 }
+    ensures verdict { IfOk result (λ v. v ≡ within context.now
+        (λ p e b. all_from (map (λ t. verdict_of p e t b) terms.now)) bound.old position) }
     ensures bound { OnOk result (bound.new ≡ bound.old) }
 {
-    let mut scope = scope;
+    let mut position = position;
     for part in terms {
-        let verdict = check_term(alloc, part, against, bound, scope)?;
-        match of_kind(scope.at, verdict, &Kind::Unit, Wanted::Unit) {
+        let verdict = check_term(context, part, bound, position)?;
+        match of_kind(position.at, verdict, &Kind::Unit, Wanted::Unit) {
             Verdict::Typed {
                 kind: _,
                 deep,
                 next,
-            } => scope = scope.behind(deep, next),
+            } => position = position.behind(deep, next),
             Verdict::Faulty { term, what } => return Ok(Verdict::Faulty { term, what }),
         }
     }
-    Ok(leaf(Kind::Unit, scope))
+    Ok(leaf(Kind::Unit, position))
 }
 
 /// Unit, for a key and a value that are texts.
 #[cycle(checking)]
 #[tactic(auto, unfolding(crate::specs::Typing::output_check))]
 fn check_output(
-    alloc: Global,
+    context: &Context<'_>,
     key: &Term,
     value: &Term,
-    against: &Against<'_>,
     bound: &mut ListOf<(Text, Kind)>,
-    scope: Scope,
+    position: Position,
 ) -> Result<Verdict, NoMemory>
-    requires { scope.at + (terms_in key.now + terms_in value.now) < 2 ^ 32 }
-    ensures verdict { IfOk result (λ v. v ≡ output_check (verdict_of against.now.program.now against.now.earlier.now key.now) (verdict_of against.now.program.now against.now.earlier.now value.now) bound.old scope) }
+    requires { position.at + (terms_in key.now + terms_in value.now) < 2 ^ 32 }
+    ensures verdict { IfOk result (λ v. v ≡ within context.now
+        (λ p e. output_check (verdict_of p e key.now) (verdict_of p e value.now))
+        bound.old position) }
     ensures bound { OnOk result (bound.new ≡ bound.old) }
 {
-    let key = check_term(alloc, key, against, bound, scope)?;
-    match of_kind(scope.at, key, &Kind::Text, Wanted::Text) {
+    let key = check_term(context, key, bound, position)?;
+    match of_kind(position.at, key, &Kind::Text, Wanted::Text) {
         Verdict::Typed {
             kind: _,
             deep,
             next,
         } => {
-            let value = check_term(alloc, value, against, bound, scope.behind(deep, next))?;
+            let value = check_term(context, value, bound, position.behind(deep, next))?;
             let value = of_kind(next, value, &Kind::Text, Wanted::Text);
             Ok(as_kind(value, Kind::Unit))
         }

@@ -5,7 +5,7 @@ ghost use Rattle.value_core.specs.declared.value.Kind.TheVariants as kinds;
 ghost use Rattle.term_core.specs.Soundness.{kind_parts, wanted_kind};
 ghost use Rattle.term_check.specs.Functions.{fun_wanted};
 ghost use Rattle.term_check.specs.Typing.{items_of};
-ghost use Rattle.term_check.specs.Verdicts.{behind, expected, in_body, inside, is_nested, sized, turned_kind};
+ghost use Rattle.term_check.specs.Verdicts.{behind, expected, in_body, inside, is_nested, kind_in, sized, turned_kind};
 
 use crate::fault::CheckWhat;
 use crate::functions::{kind_given, wanted_by};
@@ -22,7 +22,7 @@ const DEEP_LIMIT: u32 = 64;
 
 /// Where a term stands.
 #[derive(Clone, Copy, Debug, PartialEq, Eq)]
-pub(crate) struct Scope {
+pub(crate) struct Position {
     /// How many list bodies are round it.
     pub(crate) bodies: u32,
     /// How many terms of the file stood in two list bodies before it.
@@ -41,7 +41,14 @@ pub(crate) enum Verdict {
     Faulty { term: u32, what: CheckWhat },
 }
 
-impl Scope {
+/// What a term makes of its part's kind.
+#[derive(Clone, Copy, Debug, PartialEq, Eq)]
+pub(crate) enum Wrapping {
+    List,
+    Outcome,
+}
+
+impl Position {
     /// Whether a term stands too deep in lists here.
     pub(crate) fn is_nested(self, is_list: bool) -> bool
         ensures { result ≡ is_nested is_list self }
@@ -49,8 +56,8 @@ impl Scope {
         self.bodies >= 2 && (is_list || self.deep >= DEEP_LIMIT)
     }
 
-    /// The scope of the term's first part.
-    pub(crate) fn inside(self) -> Scope
+    /// The position of the term's first part.
+    pub(crate) fn inside(self) -> Position
         requires room { self.at + 1 < 2 ^ 32 }
         requires few { 2 ≤ self.bodies → self.deep < 64 }
         ensures { result ≡ inside self }
@@ -60,30 +67,30 @@ impl Scope {
         } else {
             self.deep
         };
-        Scope {
+        Position {
             bodies: self.bodies,
             deep,
             at: self.at + 1,
         }
     }
 
-    /// The scope behind a part.
-    pub(crate) fn behind(self, deep: u32, next: u32) -> Scope
+    /// The position behind a part.
+    pub(crate) fn behind(self, deep: u32, next: u32) -> Position
         ensures { result ≡ behind self deep next }
     {
-        Scope {
+        Position {
             bodies: self.bodies,
             deep,
             at: next,
         }
     }
 
-    /// The scope of a list term's body.
-    pub(crate) fn in_body(self, deep: u32, next: u32) -> Scope
+    /// The position of a list term's body.
+    pub(crate) fn in_body(self, deep: u32, next: u32) -> Position
         requires { self.bodies < 2 }
         ensures { result ≡ in_body self deep next }
     {
-        Scope {
+        Position {
             bodies: self.bodies + 1,
             deep,
             at: next,
@@ -215,26 +222,21 @@ pub(crate) fn paired(alloc: Global, first: Kind, verdict: Verdict) -> Result<Ver
     }
 }
 
-/// A list of items of a part's kind.
-pub(crate) fn listed(alloc: Global, verdict: Verdict) -> Result<Verdict, NoMemory>
-    ensures { IfOk result (λ v. v ≡ turned_kind kinds.List verdict) }
+/// A list or an outcome of a part's kind.
+pub(crate) fn wrapped(
+    alloc: Global,
+    wrapping: Wrapping,
+    verdict: Verdict,
+) -> Result<Verdict, NoMemory>
+    ensures { IfOk result (λ v. v ≡ turned_kind (kind_in wrapping) verdict) }
 {
     match verdict {
         Verdict::Typed { kind, deep, next } => {
-            let kind = Kind::List(Boxed::new(alloc, kind)?);
-            Ok(Verdict::Typed { kind, deep, next })
-        }
-        Verdict::Faulty { term, what } => Ok(Verdict::Faulty { term, what }),
-    }
-}
-
-/// An outcome of a part's kind.
-pub(crate) fn outcome_of(alloc: Global, verdict: Verdict) -> Result<Verdict, NoMemory>
-    ensures { IfOk result (λ v. v ≡ turned_kind kinds.Out verdict) }
-{
-    match verdict {
-        Verdict::Typed { kind, deep, next } => {
-            let kind = Kind::Out(Boxed::new(alloc, kind)?);
+            let kind = Boxed::new(alloc, kind)?;
+            let kind = match wrapping {
+                Wrapping::List => Kind::List(kind),
+                Wrapping::Outcome => Kind::Out(kind),
+            };
             Ok(Verdict::Typed { kind, deep, next })
         }
         Verdict::Faulty { term, what } => Ok(Verdict::Faulty { term, what }),

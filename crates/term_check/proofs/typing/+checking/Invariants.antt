@@ -11,16 +11,16 @@ abbrev pub decreases-check_parts : goal.decreases-check_parts
 decreases-check_parts l = 4 * size-Term l.term.now + 2
 
 abbrev pub decreases-check_under : goal.decreases-check_under
-decreases-check_under l = 4 * size-Term l.body.now + 4
+decreases-check_under l = 4 * size-Term l.body.term.now + 4
 
 abbrev pub decreases-check_pair : goal.decreases-check_pair
 decreases-check_pair l = 4 * max (size-Term l.a.now) (size-Term l.b.now) + 5
 
 abbrev pub decreases-check_bind : goal.decreases-check_bind
-decreases-check_bind l = 4 * max (size-Term l.left.now) (size-Term l.body.now) + 5
+decreases-check_bind l = 4 * max (size-Term l.left.now) (size-Term l.body.term.now) + 5
 
 abbrev pub decreases-check_list : goal.decreases-check_list
-decreases-check_list l = 4 * max (size-Term l.list.now) (size-Term l.body.now) + 5
+decreases-check_list l = 4 * max (size-Term l.list.now) (size-Term l.body.term.now) + 5
 
 abbrev pub decreases-check_gate : goal.decreases-check_gate
 decreases-check_gate l = 4 * max (size-Term l.on.now) (size-Term l.term.now) + 5
@@ -35,6 +35,6 @@ abbrev pub invariant-check_all-loop-part : goal.invariant-check_all-loop-part
 invariant-check_all-loop-part l =
     record {
       bound : l.bound ≡ l.initial.bound;
-      room : l.scope.at + sum (map terms_in (drop l.part-index l.terms)) < 2 ^ 32;
-      left : all_from (map (λ t. verdict_of l.against.program.now l.against.earlier.now t l.initial.bound) (drop l.part-index l.terms)) l.scope ≡ all_from (map (λ t. verdict_of l.against.program.now l.against.earlier.now t l.initial.bound) l.terms) l.initial.scope;
+      room : l.position.at + sum (map terms_in (drop l.part-index l.terms)) < 2 ^ 32;
+      left : all_from (map (λ t. verdict_of l.context.program.now l.context.earlier.now t l.initial.bound) (drop l.part-index l.terms)) l.position ≡ all_from (map (λ t. verdict_of l.context.program.now l.context.earlier.now t l.initial.bound) l.terms) l.initial.position;
     }
