@@ -4,7 +4,7 @@ ghost use Rattle.value_core.specs.Literals.{tokens_in};
 ghost use Rattle.current_cli.specs.Controls.{control_of, control};
 
 use std::alloc::{AllocError, Global};
-use value_core::{Placed, Stop, Text, Token, Value, literal_in, tokens_of};
+use value_core::{TokenAt, Stop, Text, Token, Value, literal_in, tokens_of};
 
 /// What a line asks for.
 #[derive(Drop)]
@@ -18,7 +18,7 @@ pub(crate) enum Control {
 }
 
 /// What tokens up to the end of a line ask for.
-fn control_in(alloc: Global, tokens: &[Placed]) -> Result<Control, AllocError>
+fn control_in(alloc: Global, tokens: &[TokenAt]) -> Result<Control, AllocError>
     ensures { IfOk result (λ c. c ≡ control_of (tokens_in tokens.now)) }
 {
     match tokens {

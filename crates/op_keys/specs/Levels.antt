@@ -3,7 +3,7 @@ use Rattle.std.specs.Prelude.{ℕ, nat_lt, Bool, true, Option, Some, None}
 use Rattle.op_keys.specs.declared.level.Level.{Level}
 use Rattle.op_keys.specs.declared.level.Level.TheVariants.{Harmless, MostlyHarmless, Average, AboveAverage, Dangerous}
 
--- the place of a level in their order, the least harmful first
+-- the rank of a level, from the least harmful on
 abbrev pub rank : Level → ℕ
 rank Harmless = 0
 rank MostlyHarmless = 1

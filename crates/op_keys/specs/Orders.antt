@@ -27,12 +27,12 @@ abbrev pub first_too_long : List (List ℕ) → Option ℕ
 first_too_long [] = None
 first_too_long (w ∷ ws) = if nat_lt order_limit (length w) then Some (length w) else first_too_long ws
 
--- a number as a machine word shows it: the greatest one where it is greater
+-- a number as a machine word shows it: the greatest one if it is greater
 abbrev pub capped : ℕ → ℕ
 capped n = min n (2 ^ 64 - 1)
 
--- the length that a refusal tells, where it is one for a word that is too long
-abbrev pub length_told : {A : Type 0} → Result A OrderFault → Option ℕ
-length_told (Ok words) = None
-length_told (Err (WordTooLong n)) = Some n
-length_told (Err NoMemory) = None
+-- the length in a refusal, if it is one of a word that is too long
+abbrev pub length_refused : {A : Type 0} → Result A OrderFault → Option ℕ
+length_refused (Ok words) = None
+length_refused (Err (WordTooLong n)) = Some n
+length_refused (Err NoMemory) = None

@@ -5,7 +5,7 @@ use crate::level::Level;
 use std::alloc::Global;
 use value_core::{ListOf, NoMemory, Text};
 
-/// When a result of an operation is looked for anew.
+/// When a result of an operation expires.
 #[derive(Clone, Copy, Debug, PartialEq, Eq)]
 pub enum Expiry {
     Never,
@@ -21,7 +21,7 @@ pub enum Expiry {
 #[derive(Drop)]
 pub struct OpDecl {
     pub name: Text,
-    /// Whether a key is set to a value, rather than a key giving a value.
+    /// Whether it sets a key to a value, rather than makes a value of a key.
     pub output: bool,
     pub pool: Text,
     pub client: Text,
@@ -36,9 +36,9 @@ pub struct OpDecl {
     pub expiry: Expiry,
     /// Whether a result is kept in view while a newer one is made.
     pub latched: bool,
-    /// Whether a running job goes on where nothing refers to it any more.
+    /// Whether a running job goes on when nothing refers to it any more.
     pub no_cancel: bool,
-    /// Templates, in which `{key}` and `{value}` stand for the order's key and value.
+    /// Templates, in which `{key}` and `{value}` are replaced by the order's key and value.
     pub words: ListOf<Text>,
 }
 

@@ -15,7 +15,7 @@ pub(crate) enum Piece {
     Char(char),
 }
 
-/// What the template begins with, and what is left behind it; `None` at its end.
+/// What the template begins with, and the rest after it; `None` at its end.
 pub(crate) fn first_piece(template: &str) -> Option<(Piece, &str)>
     ensures piece { MatchOption result (template.now ≡ []) (λ x. (key value : List ℕ) → filled key value template.now ≡ put key value x.0 ++ filled key value x.1.now) }
     ensures shorter { MatchOption result (template.now ≡ []) (λ x. length x.1.now < length template.now) }
@@ -44,31 +44,32 @@ pub(crate) fn fill(
 {
     let mut text = String::new(alloc);
     let mut rest = template;
-    while let Some((piece, behind)) = first_piece(rest) {
+    while let Some((piece, after)) = first_piece(rest) {
         match piece {
             Piece::Key => text.push_str(key)?,
             Piece::Value => text.push_str(value)?,
             Piece::Char(c) => text.push(c)?,
         }
-        rest = behind;
+        rest = after;
     }
     Ok(text)
 }
 
-/// How many bytes `fill` gives, or the greatest number where there are more. Takes no memory.
+/// The number of bytes of the filled template, or the greatest number if there are more. Allocates
+/// nothing.
 pub(crate) fn filled_len(template: &str, key: &str, value: &str) -> usize
     ensures { result ≡ capped (length (filled key.now value.now template.now)) }
 {
     let mut len: usize = 0;
     let mut rest = template;
-    while let Some((piece, behind)) = first_piece(rest) {
+    while let Some((piece, after)) = first_piece(rest) {
         let more = match piece {
             Piece::Key => key.len(),
             Piece::Value => value.len(),
             Piece::Char(c) => c.len_utf8(),
         };
         len = len.saturating_add(more);
-        rest = behind;
+        rest = after;
     }
     len
 }

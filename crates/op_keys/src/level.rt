@@ -24,7 +24,7 @@ fn rank(level: Level) -> u8
     }
 }
 
-/// Whether an operation of this level may start without being confirmed. Takes no memory.
+/// Whether an operation of this level may start without being confirmed. Allocates nothing.
 pub fn permitted(threshold: Option<Level>, level: Level) -> bool
     ensures { result ≡ permitted threshold level }
 {

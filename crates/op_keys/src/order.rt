@@ -2,7 +2,7 @@
 ghost use Rattle.std.specs.Prelude.{◌≡◌, ◌≤◌, List, ℕ, length, map, option_map, IfOk, IfErr, OnOk, true};
 ghost use Rattle.std.specs.String.{string_bytes};
 ghost use Rattle.op_keys.specs.Filling.{filled};
-ghost use Rattle.op_keys.specs.Orders.{order_limit, order_words, order_fits, first_too_long, capped, length_told};
+ghost use Rattle.op_keys.specs.Orders.{order_limit, order_words, order_fits, first_too_long, capped, length_refused};
 ghost use Rattle.value_core.specs.Texts.{HasNoNul};
 
 use crate::declarations::OpDecl;
@@ -44,7 +44,7 @@ pub struct Order {
 /// How the run of an order ended.
 #[derive(Drop)]
 pub enum Exit {
-    /// The process ended, by a signal where it has no code.
+    /// The process ended, by a signal if it has no code.
     Ended {
         code: Option<u8>,
         output: ListOf<u8>,
@@ -53,7 +53,7 @@ pub enum Exit {
     Fault,
 }
 
-/// Why there are no words.
+/// Why an order has no words.
 #[derive(Debug, Drop)]
 pub enum OrderFault {
     /// A word beyond the limit, with its length.
@@ -105,7 +105,7 @@ fn too_long(templates: &[Text], key: &Text, value: &Text) -> Option<usize>
     None
 }
 
-/// Whether each word of the order is within the limit. Takes no memory.
+/// Whether each word of the order is within the limit. Allocates nothing.
 pub fn order_fits(decl: &OpDecl, key: &Text, value: &Text) -> bool
     ensures { result ≡ order_fits decl.now key.now value.now }
 {
@@ -136,7 +136,7 @@ fn filled_words(
     Ok(words)
 }
 
-/// The words of the order for a key and a value. No word is built where one is too long.
+/// The words of the order for a key and a value. No word is built if one is too long.
 pub fn words_of(
     alloc: Global,
     decl: &OpDecl,
@@ -145,7 +145,7 @@ pub fn words_of(
 ) -> Result<ListOf<Word>, OrderFault>
     ensures words { IfOk result (λ ws. ws ≡ order_words decl.now key.now value.now) }
     ensures fits { OnOk result (order_fits decl.now key.now value.now ≡ true) }
-    ensures too_long { length_told result ≡ option_map capped (first_too_long (order_words decl.now key.now value.now)) }
+    ensures too_long { length_refused result ≡ option_map capped (first_too_long (order_words decl.now key.now value.now)) }
 {
     let templates = decl.words.as_slice();
     if let Some(len) = too_long(templates, key, value) {
@@ -154,7 +154,7 @@ pub fn words_of(
     Ok(filled_words(alloc, templates, key, value)?)
 }
 
-/// The hint of the order for a key and a value, of any length, where one is declared.
+/// The hint of the order for a key and a value, of any length, if one is declared.
 pub fn hint_of(
     alloc: Global,
     decl: &OpDecl,

@@ -3,7 +3,7 @@ use Rattle.std.proofs.Common.{◌≡◌, ℕ, zero, suc, ◌-◌, ◌≤◌, Boo
 use Rattle.std.specs.Prelude.{◌==◌, ◌⊎◌, nat_lt, Ok, Err, Option, Some, None, codes}
 use Rattle.value_core.specs.declared.token.Token.{Token}
 use Rattle.value_core.specs.declared.token.Token.TheVariants.{Name, Number, Words, Mark, LongName, LongText}
-use Rattle.value_core.specs.declared.lexing.Placed.{Placed}
+use Rattle.value_core.specs.declared.lexing.TokenAt.{TokenAt}
 use Rattle.value_core.specs.declared.lexing.Stop.{Stop}
 use Rattle.value_core.specs.declared.lexing.Stop.TheVariants as stop
 use Rattle.value_core.specs.Lexing.{lexed}
@@ -48,7 +48,7 @@ use Rattle.pipe_text.proofs.FirstFault.{all_open, made_err, right_fault}
 
 -- the reader never tells of a name given twice
 record Never {A : Type 0} (r : Reader A) : Type 0 where
-  pub never : (s : Stop) (ts : List Placed) (n : List ℕ) (p : ℕ) → r s ts ≡ Err (Duplicate n p) → ⊥
+  pub never : (s : Stop) (ts : List TokenAt) (n : List ℕ) (p : ℕ) → r s ts ≡ Err (Duplicate n p) → ⊥
 
 abbrev NeverFor : {A : Type 0} → Choice A → Type 0
 NeverFor (Err f) = (p : ℕ) (n : List ℕ) (q : ℕ) → f p ≡ Duplicate n q → ⊥
@@ -64,19 +64,19 @@ never_stop : (s : Stop) (n : List ℕ) (p : ℕ) → fault_of s ≡ Duplicate n 
 never_stop (stop.Lex q) n p e = cc
 never_stop (stop.End q) n p e = cc
 
-abbrev wrong : {A : Type 0} → Fault → Result (A × List Placed) Fault
+abbrev wrong : {A : Type 0} → Fault → Result (A × List TokenAt) Fault
 wrong f = Err f
 
 err_is : {A : Type 0} (f g : Fault) → wrong {A = A} f ≡ wrong {A = A} g → f ≡ g
 err_is f g e = cc
 
-never_go : {A : Type 0} (o : Choice A) (place : ℕ) (s : Stop) (ts : List Placed) (n : List ℕ) (p : ℕ) → NeverFor o → go o place s ts ≡ Err (Duplicate n p) → ⊥
-never_go {A} (Err f) place s ts n p x e = x place n p (err_is {A = A} (f place) (Duplicate n p) e)
-never_go (Ok r) place s ts n p x e = x.never s ts n p e
+never_go : {A : Type 0} (o : Choice A) (offset : ℕ) (s : Stop) (ts : List TokenAt) (n : List ℕ) (p : ℕ) → NeverFor o → go o offset s ts ≡ Err (Duplicate n p) → ⊥
+never_go {A} (Err f) offset s ts n p x e = x offset n p (err_is {A = A} (f offset) (Duplicate n p) e)
+never_go (Ok r) offset s ts n p x e = x.never s ts n p e
 
-raw_branch : {A : Type 0} (table : Token → Choice A) → ((k : Token) → NeverFor (table k)) → (s : Stop) (ts : List Placed) (n : List ℕ) (p : ℕ) → branch table s ts ≡ Err (Duplicate n p) → ⊥
+raw_branch : {A : Type 0} (table : Token → Choice A) → ((k : Token) → NeverFor (table k)) → (s : Stop) (ts : List TokenAt) (n : List ℕ) (p : ℕ) → branch table s ts ≡ Err (Duplicate n p) → ⊥
 raw_branch {A} table x s [] n p e = never_stop s n p (err_is {A = A} (fault_of s) (Duplicate n p) e)
-raw_branch table x s (t ∷ ts) n p e = never_go (table t.token) t.place s ts n p (x t.token) e
+raw_branch table x s (t ∷ ts) n p e = never_go (table t.token) t.offset s ts n p (x t.token) e
 
 never_branch : {A : Type 0} (table : Token → Choice A) → ((k : Token) → NeverFor (table k)) → Never (branch table)
 never_branch table x = record { never = raw_branch table x }
@@ -85,7 +85,7 @@ never_if : {A : Type 0} (b : Bool) (x y : Choice A) → NeverFor x → NeverFor 
 never_if true x y h k = h
 never_if false x y h k = k
 
-pick : {A : Type 0} (b : Bool) (r q : Reader A) (s : Stop) (ts : List Placed) (n : List ℕ) (p : ℕ) → Never r → Never q → cond b (r s ts) (q s ts) ≡ Err (Duplicate n p) → ⊥
+pick : {A : Type 0} (b : Bool) (r q : Reader A) (s : Stop) (ts : List TokenAt) (n : List ℕ) (p : ℕ) → Never r → Never q → cond b (r s ts) (q s ts) ≡ Err (Duplicate n p) → ⊥
 pick true r q s ts n p x y e = x.never s ts n p e
 pick false r q s ts n p x y e = y.never s ts n p e
 
@@ -358,79 +358,79 @@ never_op lim v n w = never_seq (where_at lim) _ (never_where lim) (λ p. never_s
 abbrev Tells : Seen → DeclWord → List Token → Token → List ℕ → Type 0
 Tells seen w ks k n = ((ks ≡ []) × (k ≡ Name n) × (seen.named w n ≡ true)) ⊎ ((w ≡ decl.Client) × (q : List ℕ) × (ks ≡ Name n ∷ []) × (k ≡ Name q) × (seen.paired n q ≡ true))
 
-abbrev Dup : {A : Type 0} → Result (A × List Placed) Fault → List ℕ → ℕ → Type 0
+abbrev Dup : {A : Type 0} → Result (A × List TokenAt) Fault → List ℕ → ℕ → Type 0
 Dup r n p = r ≡ Err (Duplicate n p)
 
 abbrev Same : List ℕ → ℕ → List ℕ → ℕ → Bool → Type 0
-Same m place n p known = (p ≡ place) × (m ≡ n) × (known ≡ true)
+Same m offset n p known = (p ≡ offset) × (m ≡ n) × (known ≡ true)
 
-same_dup : {A : Type 0} (m n : List ℕ) (place p : ℕ) → wrong {A = A} (Duplicate m place) ≡ wrong {A = A} (Duplicate n p) → (p ≡ place) × (m ≡ n)
-same_dup m n place p e = (cc, cc)
+same_dup : {A : Type 0} (m n : List ℕ) (offset p : ℕ) → wrong {A = A} (Duplicate m offset) ≡ wrong {A = A} (Duplicate n p) → (p ≡ offset) × (m ≡ n)
+same_dup m n offset p e = (cc, cc)
 
-new_told : (room known : Bool) (g : ℕ → Fault) → ((x : ℕ) (n : List ℕ) (q : ℕ) → g x ≡ Duplicate n q → ⊥) → (m : List ℕ) (place : ℕ) (s : Stop) (ts : List Placed) (n : List ℕ) (p : ℕ)
-    → Dup (go (cond room (cond known (Err (Duplicate m)) (Ok (give m))) (Err g)) place s ts) n p → Same m place n p known
-new_told true true g h m place s ts n p e = let both = same_dup {A = List ℕ} m n place p e in (both.0, both.1, refl)
-new_told true false g h m place s ts n p e = absurd cc
-new_told false known g h m place s ts n p e = absurd (h place n p (err_is {A = List ℕ} (g place) (Duplicate n p) e))
+new_told : (room known : Bool) (g : ℕ → Fault) → ((x : ℕ) (n : List ℕ) (q : ℕ) → g x ≡ Duplicate n q → ⊥) → (m : List ℕ) (offset : ℕ) (s : Stop) (ts : List TokenAt) (n : List ℕ) (p : ℕ)
+    → Dup (go (cond room (cond known (Err (Duplicate m)) (Ok (give m))) (Err g)) offset s ts) n p → Same m offset n p known
+new_told true true g h m offset s ts n p e = let both = same_dup {A = List ℕ} m n offset p e in (both.0, both.1, refl)
+new_told true false g h m offset s ts n p e = absurd cc
+new_told false known g h m offset s ts n p e = absurd (h offset n p (err_is {A = List ℕ} (g offset) (Duplicate n p) e))
 
-long_told : (room : Bool) (g l : ℕ → Fault) → ((x : ℕ) (n : List ℕ) (q : ℕ) → g x ≡ Duplicate n q → ⊥) → ((x : ℕ) (n : List ℕ) (q : ℕ) → l x ≡ Duplicate n q → ⊥) → (place : ℕ) (s : Stop) (ts : List Placed) (n : List ℕ) (p : ℕ) → Dup {A = List ℕ} (go (cond room (Err l) (Err g)) place s ts) n p → ⊥
-long_told true g l h k place s ts n p e = k place n p (err_is {A = List ℕ} (l place) (Duplicate n p) e)
-long_told false g l h k place s ts n p e = h place n p (err_is {A = List ℕ} (g place) (Duplicate n p) e)
+long_told : (room : Bool) (g l : ℕ → Fault) → ((x : ℕ) (n : List ℕ) (q : ℕ) → g x ≡ Duplicate n q → ⊥) → ((x : ℕ) (n : List ℕ) (q : ℕ) → l x ≡ Duplicate n q → ⊥) → (offset : ℕ) (s : Stop) (ts : List TokenAt) (n : List ℕ) (p : ℕ) → Dup {A = List ℕ} (go (cond room (Err l) (Err g)) offset s ts) n p → ⊥
+long_told true g l h k offset s ts n p e = k offset n p (err_is {A = List ℕ} (l offset) (Duplicate n p) e)
+long_told false g l h k offset s ts n p e = h offset n p (err_is {A = List ℕ} (g offset) (Duplicate n p) e)
 
-pair_told : (known : Bool) (m q : List ℕ) (place : ℕ) (s : Stop) (ts : List Placed) (n : List ℕ) (p : ℕ) → Dup (go (cond known (Err (Duplicate m)) (Ok (give q))) place s ts) n p → Same m place n p known
-pair_told true m q place s ts n p e = let both = same_dup {A = List ℕ} m n place p e in (both.0, both.1, refl)
-pair_told false m q place s ts n p e = absurd cc
+pair_told : (known : Bool) (m q : List ℕ) (offset : ℕ) (s : Stop) (ts : List TokenAt) (n : List ℕ) (p : ℕ) → Dup (go (cond known (Err (Duplicate m)) (Ok (give q))) offset s ts) n p → Same m offset n p known
+pair_told true m q offset s ts n p e = let both = same_dup {A = List ℕ} m n offset p e in (both.0, both.1, refl)
+pair_told false m q offset s ts n p e = absurd cc
 
-syntax_told : {A : Type 0} (place : ℕ) (n : List ℕ) (p : ℕ) → Dup {A = A} (Err (Syntax place)) n p → ⊥
-syntax_told place n p e = cc
+syntax_told : {A : Type 0} (offset : ℕ) (n : List ℕ) (p : ℕ) → Dup {A = A} (Err (Syntax offset)) n p → ⊥
+syntax_told offset n p e = cc
 
 -- what a token tells that gives a name again
 abbrev ToldNew : DeclWord → Seen → Token → ℕ → List ℕ → ℕ → Type 0
-ToldNew w seen k place n p = (p ≡ place) × (k ≡ Name n) × (seen.named w n ≡ true)
+ToldNew w seen k offset n p = (p ≡ offset) × (k ≡ Name n) × (seen.named w n ≡ true)
 
-new_of : (w : DeclWord) (seen : Seen) (k : Token) (place : ℕ) (s : Stop) (ts : List Placed) (n : List ℕ) (p : ℕ) → Dup (go (declared_choice file_bounds w seen k) place s ts) n p → ToldNew w seen k place n p
-new_of w seen (Name m) place s ts n p e =
-    let t = new_told _ (seen.named w m) _ (never_limit _ _) m place s ts n p e in
+new_of : (w : DeclWord) (seen : Seen) (k : Token) (offset : ℕ) (s : Stop) (ts : List TokenAt) (n : List ℕ) (p : ℕ) → Dup (go (declared_choice file_bounds w seen k) offset s ts) n p → ToldNew w seen k offset n p
+new_of w seen (Name m) offset s ts n p e =
+    let t = new_told _ (seen.named w m) _ (never_limit _ _) m offset s ts n p e in
     (t.0, ap Name t.1, subst (λ (i : List ℕ). seen.named w i ≡ true) t.1 t.2)
-new_of w seen LongName place s ts n p e = absurd (long_told _ _ _ (never_limit _ _) (never_limit limit.Name 64) place s ts n p e)
-new_of w seen (Number m) place s ts n p e = absurd (syntax_told {A = List ℕ} place n p e)
-new_of w seen (Words m) place s ts n p e = absurd (syntax_told {A = List ℕ} place n p e)
-new_of w seen (Mark m) place s ts n p e = absurd (syntax_told {A = List ℕ} place n p e)
-new_of w seen LongText place s ts n p e = absurd (syntax_told {A = List ℕ} place n p e)
+new_of w seen LongName offset s ts n p e = absurd (long_told _ _ _ (never_limit _ _) (never_limit limit.Name 64) offset s ts n p e)
+new_of w seen (Number m) offset s ts n p e = absurd (syntax_told {A = List ℕ} offset n p e)
+new_of w seen (Words m) offset s ts n p e = absurd (syntax_told {A = List ℕ} offset n p e)
+new_of w seen (Mark m) offset s ts n p e = absurd (syntax_told {A = List ℕ} offset n p e)
+new_of w seen LongText offset s ts n p e = absurd (syntax_told {A = List ℕ} offset n p e)
 
-abbrev NewAgain : DeclWord → Seen → List Placed → List ℕ → ℕ → Type 0
-NewAgain w seen ts n p = (t : Placed) × (after : List Placed) × (ts ≡ t ∷ after) × ToldNew w seen t.token t.place n p
+abbrev NewAgain : DeclWord → Seen → List TokenAt → List ℕ → ℕ → Type 0
+NewAgain w seen ts n p = (t : TokenAt) × (after : List TokenAt) × (ts ≡ t ∷ after) × ToldNew w seen t.token t.offset n p
 
-new_again : (w : DeclWord) (seen : Seen) (s : Stop) (ts : List Placed) (n : List ℕ) (p : ℕ) → Dup (declared_at file_bounds w seen s ts) n p → NewAgain w seen ts n p
+new_again : (w : DeclWord) (seen : Seen) (s : Stop) (ts : List TokenAt) (n : List ℕ) (p : ℕ) → Dup (declared_at file_bounds w seen s ts) n p → NewAgain w seen ts n p
 new_again w seen s [] n p e = absurd (never_stop s n p (err_is {A = List ℕ} (fault_of s) (Duplicate n p) e))
-new_again w seen s (t ∷ ts) n p e = (t, ts, refl, new_of w seen t.token t.place s ts n p e)
+new_again w seen s (t ∷ ts) n p e = (t, ts, refl, new_of w seen t.token t.offset s ts n p e)
 
 abbrev ToldPair : Seen → List ℕ → Token → ℕ → List ℕ → ℕ → Type 0
-ToldPair seen m k place n p = (p ≡ place) × (m ≡ n) × (q : List ℕ) × (k ≡ Name q) × (seen.paired n q ≡ true)
+ToldPair seen m k offset n p = (p ≡ offset) × (m ≡ n) × (q : List ℕ) × (k ≡ Name q) × (seen.paired n q ≡ true)
 
-pair_of : (seen : Seen) (m : List ℕ) (k : Token) (place : ℕ) (s : Stop) (ts : List Placed) (n : List ℕ) (p : ℕ) → Dup (go (paired_choice file_bounds seen m k) place s ts) n p → ToldPair seen m k place n p
-pair_of seen m (Name q) place s ts n p e = let t = pair_told (seen.paired m q) m q place s ts n p e in (t.0, t.1, q, refl, subst (λ (i : List ℕ). seen.paired i q ≡ true) t.1 t.2)
-pair_of seen m LongName place s ts n p e = absurd (never_limit limit.Name 64 place n p (err_is {A = List ℕ} (Limit limit.Name 64 place) (Duplicate n p) e))
-pair_of seen m (Number q) place s ts n p e = absurd (syntax_told {A = List ℕ} place n p e)
-pair_of seen m (Words q) place s ts n p e = absurd (syntax_told {A = List ℕ} place n p e)
-pair_of seen m (Mark q) place s ts n p e = absurd (syntax_told {A = List ℕ} place n p e)
-pair_of seen m LongText place s ts n p e = absurd (syntax_told {A = List ℕ} place n p e)
+pair_of : (seen : Seen) (m : List ℕ) (k : Token) (offset : ℕ) (s : Stop) (ts : List TokenAt) (n : List ℕ) (p : ℕ) → Dup (go (paired_choice file_bounds seen m k) offset s ts) n p → ToldPair seen m k offset n p
+pair_of seen m (Name q) offset s ts n p e = let t = pair_told (seen.paired m q) m q offset s ts n p e in (t.0, t.1, q, refl, subst (λ (i : List ℕ). seen.paired i q ≡ true) t.1 t.2)
+pair_of seen m LongName offset s ts n p e = absurd (never_limit limit.Name 64 offset n p (err_is {A = List ℕ} (Limit limit.Name 64 offset) (Duplicate n p) e))
+pair_of seen m (Number q) offset s ts n p e = absurd (syntax_told {A = List ℕ} offset n p e)
+pair_of seen m (Words q) offset s ts n p e = absurd (syntax_told {A = List ℕ} offset n p e)
+pair_of seen m (Mark q) offset s ts n p e = absurd (syntax_told {A = List ℕ} offset n p e)
+pair_of seen m LongText offset s ts n p e = absurd (syntax_told {A = List ℕ} offset n p e)
 
-abbrev PairAgain : Seen → List ℕ → List Placed → List ℕ → ℕ → Type 0
-PairAgain seen m ts n p = (t : Placed) × (after : List Placed) × (ts ≡ t ∷ after) × ToldPair seen m t.token t.place n p
+abbrev PairAgain : Seen → List ℕ → List TokenAt → List ℕ → ℕ → Type 0
+PairAgain seen m ts n p = (t : TokenAt) × (after : List TokenAt) × (ts ≡ t ∷ after) × ToldPair seen m t.token t.offset n p
 
-pair_again : (seen : Seen) (m : List ℕ) (s : Stop) (ts : List Placed) (n : List ℕ) (p : ℕ) → Dup (paired_at file_bounds seen m s ts) n p → PairAgain seen m ts n p
+pair_again : (seen : Seen) (m : List ℕ) (s : Stop) (ts : List TokenAt) (n : List ℕ) (p : ℕ) → Dup (paired_at file_bounds seen m s ts) n p → PairAgain seen m ts n p
 pair_again seen m s [] n p e = absurd (never_stop s n p (err_is {A = List ℕ} (fault_of s) (Duplicate n p) e))
-pair_again seen m s (t ∷ ts) n p e = (t, ts, refl, pair_of seen m t.token t.place s ts n p e)
+pair_again seen m s (t ∷ ts) n p e = (t, ts, refl, pair_of seen m t.token t.offset s ts n p e)
 
 -- behind its word a declaration gives a name again
-abbrev RestAgain : Seen → DeclWord → List Placed → List ℕ → ℕ → Type 0
-RestAgain seen w ts n p = (front : List Placed) × (t : Placed) × (after : List Placed) × (ts ≡ front ++ t ∷ after) × (p ≡ t.place) × Tells seen w (tokens_in front) t.token n
+abbrev RestAgain : Seen → DeclWord → List TokenAt → List ℕ → ℕ → Type 0
+RestAgain seen w ts n p = (front : List TokenAt) × (t : TokenAt) × (after : List TokenAt) × (ts ≡ front ++ t ∷ after) × (p ≡ t.offset) × Tells seen w (tokens_in front) t.token n
 
-new_first : (seen : Seen) (w : DeclWord) (ts : List Placed) (n : List ℕ) (p : ℕ) → NewAgain w seen ts n p → RestAgain seen w ts n p
-new_first seen w ts n p (t, after, parts, (place, name, known)) = ([], t, after, parts, place, inl (refl, name, known))
+new_first : (seen : Seen) (w : DeclWord) (ts : List TokenAt) (n : List ℕ) (p : ℕ) → NewAgain w seen ts n p → RestAgain seen w ts n p
+new_first seen w ts n p (t, after, parts, (offset, name, known)) = ([], t, after, parts, offset, inl (refl, name, known))
 
-named_rest : (seen : Seen) (w : DeclWord) (f : List ℕ → Reader Declaration) → ((m : List ℕ) → Never (f m)) → (s : Stop) (ts : List Placed) (n : List ℕ) (p : ℕ) → Dup (seq (declared_at file_bounds w seen) f s ts) n p → RestAgain seen w ts n p
+named_rest : (seen : Seen) (w : DeclWord) (f : List ℕ → Reader Declaration) → ((m : List ℕ) → Never (f m)) → (s : Stop) (ts : List TokenAt) (n : List ℕ) (p : ℕ) → Dup (seq (declared_at file_bounds w seen) f s ts) n p → RestAgain seen w ts n p
 named_rest seen w f x s ts n p e = elim (bind_err (declared_at file_bounds w seen s ts) (λ z. f z.0 s z.1) (Duplicate n p) e) [
   | inl h ↦ new_first seen w ts n p (new_again w seen s ts n p h)
   | inr (z, good, h) ↦ absurd ((x z.0).never s z.1 n p h)
@@ -444,11 +444,11 @@ is_name_token m (Words j) e = absurd e
 is_name_token m (Mark j) e = absurd e
 is_name_token m LongText e = absurd e
 
-pair_rest : (seen : Seen) (ts front rest : List Placed) (m : List ℕ) (k : Token) (n : List ℕ) (p : ℕ) → ts ≡ front ++ rest → tokens_in front ≡ k ∷ [] → NameIs file_limits m k → PairAgain seen m rest n p → RestAgain seen decl.Client ts n p
-pair_rest seen ts front rest m k n p parts one name (t, after, split, (place, same, q, pool, known)) =
-    (front, t, after, parts ∙ ap (λ (l : List Placed). front ++ l) split, place, inr (refl, q, one ∙ (λ i. is_name_token m k name i ∷ []) ∙ (λ i. Name (same i) ∷ []), pool, known))
+pair_rest : (seen : Seen) (ts front rest : List TokenAt) (m : List ℕ) (k : Token) (n : List ℕ) (p : ℕ) → ts ≡ front ++ rest → tokens_in front ≡ k ∷ [] → NameIs file_limits m k → PairAgain seen m rest n p → RestAgain seen decl.Client ts n p
+pair_rest seen ts front rest m k n p parts one name (t, after, split, (offset, same, q, pool, known)) =
+    (front, t, after, parts ∙ ap (λ (l : List TokenAt). front ++ l) split, offset, inr (refl, q, one ∙ (λ i. is_name_token m k name i ∷ []) ∙ (λ i. Name (same i) ∷ []), pool, known))
 
-client_rest : (seen : Seen) (g : List ℕ → List ℕ → Reader Declaration) → ((m q : List ℕ) → Never (g m q)) → (s : Stop) (ts : List Placed) (n : List ℕ) (p : ℕ)
+client_rest : (seen : Seen) (g : List ℕ → List ℕ → Reader Declaration) → ((m q : List ℕ) → Never (g m q)) → (s : Stop) (ts : List TokenAt) (n : List ℕ) (p : ℕ)
     → Dup (seq (declared_at file_bounds decl.Client seen) (λ m. seq (paired_at file_bounds seen m) (g m)) s ts) n p → RestAgain seen decl.Client ts n p
 client_rest seen g x s ts n p e = elim (bind_err (declared_at file_bounds decl.Client seen s ts) (λ z. seq (paired_at file_bounds seen z.0) (g z.0) s z.1) (Duplicate n p) e) [
   | inl h ↦ new_first seen decl.Client ts n p (new_again decl.Client seen s ts n p h)
@@ -460,7 +460,7 @@ client_rest seen g x s ts n p e = elim (bind_err (declared_at file_bounds decl.C
       ]
 ]
 
-rest_again : (seen : Seen) (w : DeclWord) (s : Stop) (ts : List Placed) (n : List ℕ) (p : ℕ) → Dup (rest_at file_bounds seen w s ts) n p → RestAgain seen w ts n p
+rest_again : (seen : Seen) (w : DeclWord) (s : Stop) (ts : List TokenAt) (n : List ℕ) (p : ℕ) → Dup (rest_at file_bounds seen w s ts) n p → RestAgain seen w ts n p
 unfolding rest_at
 rest_again seen decl.Input s ts n p e = named_rest seen decl.Input _ (λ m. never_as (value_at file_limits) _ (never_value file_limits)) s ts n p e
 rest_again seen decl.Pool s ts n p e = named_rest seen decl.Pool _ (λ m. never_seq (keyword_at (codes "hold")) _ (never_keyword (codes "hold")) (λ u. never_as (number_at file_limits limit.Hold) _ (never_number file_limits limit.Hold))) s ts n p e
@@ -469,34 +469,34 @@ rest_again seen decl.Worker s ts n p e = named_rest seen decl.Worker _ (λ m. ne
 rest_again seen decl.Op s ts n p e = named_rest seen decl.Op _ (λ m. never_seq (word_at op_word) _ (never_word op_word) (λ w. never_as (op_at file_limits seen.version m w) _ (never_op file_limits seen.version m w))) s ts n p e
 rest_again seen decl.Node s ts n p e = named_rest seen decl.Node _ (λ m. never_as (term_at file_limits 64 (4096 - seen.terms)) _ (never_term file_limits 64 (4096 - seen.terms))) s ts n p e
 
-abbrev DeclAgain : Seen → List Placed → List ℕ → ℕ → Type 0
-DeclAgain seen ts n p = (w : DeclWord) × (front : List Placed) × (t : Placed) × (after : List Placed) × (k2 : List Token) × (ts ≡ front ++ t ∷ after) × (p ≡ t.place) × (tokens_in front ≡ Name (decl_letters w) ∷ k2) × Tells seen w k2 t.token n
+abbrev DeclAgain : Seen → List TokenAt → List ℕ → ℕ → Type 0
+DeclAgain seen ts n p = (w : DeclWord) × (front : List TokenAt) × (t : TokenAt) × (after : List TokenAt) × (k2 : List Token) × (ts ≡ front ++ t ∷ after) × (p ≡ t.offset) × (tokens_in front ≡ Name (decl_letters w) ∷ k2) × Tells seen w k2 t.token n
 
-behind_word : (seen : Seen) (w : DeclWord) (ts front rest : List Placed) (n : List ℕ) (p : ℕ) → ts ≡ front ++ rest → tokens_in front ≡ Name (decl_letters w) ∷ [] → RestAgain seen w rest n p → DeclAgain seen ts n p
-behind_word seen w ts front rest n p parts word (mid, t, after, split, place, tells) =
-    (w, front ++ mid, t, after, tokens_in mid, parts ∙ ap (λ (l : List Placed). front ++ l) split ∙ sym (append_assoc front mid (t ∷ after)), place, tokens_in-append front mid ∙ (λ i. word i ++ tokens_in mid), tells)
+behind_word : (seen : Seen) (w : DeclWord) (ts front rest : List TokenAt) (n : List ℕ) (p : ℕ) → ts ≡ front ++ rest → tokens_in front ≡ Name (decl_letters w) ∷ [] → RestAgain seen w rest n p → DeclAgain seen ts n p
+behind_word seen w ts front rest n p parts word (mid, t, after, split, offset, tells) =
+    (w, front ++ mid, t, after, tokens_in mid, parts ∙ ap (λ (l : List TokenAt). front ++ l) split ∙ sym (append_assoc front mid (t ∷ after)), offset, tokens_in-append front mid ∙ (λ i. word i ++ tokens_in mid), tells)
 
-decl_again : (seen : Seen) (s : Stop) (ts : List Placed) (n : List ℕ) (p : ℕ) → Dup (decl_at file_bounds seen s ts) n p → DeclAgain seen ts n p
+decl_again : (seen : Seen) (s : Stop) (ts : List TokenAt) (n : List ℕ) (p : ℕ) → Dup (decl_at file_bounds seen s ts) n p → DeclAgain seen ts n p
 unfolding decl_at
 decl_again seen s ts n p e = elim (bind_err (word_at decl_word s ts) (λ z. rest_at file_bounds seen z.0 s z.1) (Duplicate n p) e) [
   | inl h ↦ absurd ((never_word decl_word).never s ts n p h)
   | inr (z, good, h) ↦ let f = (finds_letters decl_word decl_letters decl_letters_are).found s ts z.0 z.1 good in behind_word seen z.0 ts f.0 z.1 n p f.1 f.2 (rest_again seen z.0 s z.1 n p h)
 ]
 
-abbrev AllAgain : ℕ → List Declaration → List Placed → List ℕ → ℕ → Type 0
-AllAgain v before ts n p = (front : List Placed) × (t : Placed) × (after : List Placed) × (ts ≡ front ++ t ∷ after) × (p ≡ t.place) × (ds : List Declaration) × (w : DeclWord) × (k1 k2 : List Token) × (tokens_in front ≡ k1 ++ Name (decl_letters w) ∷ k2)
+abbrev AllAgain : ℕ → List Declaration → List TokenAt → List ℕ → ℕ → Type 0
+AllAgain v before ts n p = (front : List TokenAt) × (t : TokenAt) × (after : List TokenAt) × (ts ≡ front ++ t ∷ after) × (p ≡ t.offset) × (ds : List Declaration) × (w : DeclWord) × (k1 k2 : List Token) × (tokens_in front ≡ k1 ++ Name (decl_letters w) ∷ k2)
     × DeclareAll file_limits 64 v ds k1 × Again (before ++ ds) w k2 t.token n
 
-first_again : (v : ℕ) (before : List Declaration) (ts : List Placed) (n : List ℕ) (p : ℕ) → DeclAgain (seen_in v before) ts n p → AllAgain v before ts n p
-first_again v before ts n p (w, front, t, after, k2, parts, place, word, tells) = (front, t, after, parts, place, [], w, [], k2, word, refl, subst (λ (ds : List Declaration). Again ds w k2 t.token n) (sym (append-nil before)) tells)
+first_again : (v : ℕ) (before : List Declaration) (ts : List TokenAt) (n : List ℕ) (p : ℕ) → DeclAgain (seen_in v before) ts n p → AllAgain v before ts n p
+first_again v before ts n p (w, front, t, after, k2, parts, offset, word, tells) = (front, t, after, parts, offset, [], w, [], k2, word, refl, subst (λ (ds : List Declaration). Again ds w k2 t.token n) (sym (append-nil before)) tells)
 
-later_again : (v : ℕ) (before : List Declaration) (d : Declaration) (ts front rest : List Placed) (n : List ℕ) (p : ℕ) → ts ≡ front ++ rest → Declares file_limits 64 v d (tokens_in front) → AllAgain v (before ++ d ∷ []) rest n p → AllAgain v before ts n p
-later_again v before d ts front rest n p parts one_decl (mid, t, after, split, place, ds, w, k1, k2, word, all, again) = (
+later_again : (v : ℕ) (before : List Declaration) (d : Declaration) (ts front rest : List TokenAt) (n : List ℕ) (p : ℕ) → ts ≡ front ++ rest → Declares file_limits 64 v d (tokens_in front) → AllAgain v (before ++ d ∷ []) rest n p → AllAgain v before ts n p
+later_again v before d ts front rest n p parts one_decl (mid, t, after, split, offset, ds, w, k1, k2, word, all, again) = (
   front ++ mid,
   t,
   after,
-  parts ∙ ap (λ (l : List Placed). front ++ l) split ∙ sym (append_assoc front mid (t ∷ after)),
-  place,
+  parts ∙ ap (λ (l : List TokenAt). front ++ l) split ∙ sym (append_assoc front mid (t ∷ after)),
+  offset,
   d ∷ ds,
   w,
   tokens_in front ++ k1,
@@ -511,7 +511,7 @@ unfolding all_at decls_at
 none_again v before (stop.Lex q) n p e = cc
 none_again v before (stop.End q) n p e = cc
 
-decls_again : (v m : ℕ) (before : List Declaration) (s : Stop) (ts : List Placed) (n : List ℕ) (p : ℕ) → length ts ≤ m → Dup (all_at file_bounds v before s ts) n p → AllAgain v before ts n p
+decls_again : (v m : ℕ) (before : List Declaration) (s : Stop) (ts : List TokenAt) (n : List ℕ) (p : ℕ) → length ts ≤ m → Dup (all_at file_bounds v before s ts) n p → AllAgain v before ts n p
 decls_again v m before s [] n p few e = absurd (none_again v before s n p e)
 decls_again v zero before s (t ∷ ts) n p few e = absurd (omega (arith, few))
 decls_again v (suc m) before s (t ∷ ts) n p few e = elim (bind_err (decl_at file_bounds (seen_in v before) s (t ∷ ts)) (λ y. all_at file_bounds v (before ++ y.0 ∷ []) s y.1) (Duplicate n p) (sym (all_open file_bounds v before s t ts) ∙ e)) [
@@ -533,13 +533,13 @@ version_never LongText = never_syntax
 never_head : Never (seq (keyword_at (codes "pipeline")) (λ u. version_at))
 never_head = never_seq (keyword_at (codes "pipeline")) (λ u. version_at) (never_keyword (codes "pipeline")) (λ u. never_branch version_choice version_never)
 
-headed_again : (v : ℕ) (ts f1 r1 f2 rest : List Placed) (n : List ℕ) (p : ℕ) → ts ≡ f1 ++ r1 → r1 ≡ f2 ++ rest → tokens_in f1 ≡ Name (codes "pipeline") ∷ [] → OneVersion v (tokens_in f2) → AllAgain v [] rest n p → IsNamedAgain ts n p
-headed_again v ts f1 r1 f2 rest n p first second word (is, number) (front, t, after, split, place, ds, w, k1, k2, keyword, all, again) = (
+headed_again : (v : ℕ) (ts f1 r1 f2 rest : List TokenAt) (n : List ℕ) (p : ℕ) → ts ≡ f1 ++ r1 → r1 ≡ f2 ++ rest → tokens_in f1 ≡ Name (codes "pipeline") ∷ [] → OneVersion v (tokens_in f2) → AllAgain v [] rest n p → IsNamedAgain ts n p
+headed_again v ts f1 r1 f2 rest n p first second word (is, number) (front, t, after, split, offset, ds, w, k1, k2, keyword, all, again) = (
   f1 ++ (f2 ++ front),
   t,
   after,
-  first ∙ ap (λ (l : List Placed). f1 ++ l) (second ∙ ap (λ (l : List Placed). f2 ++ l) split ∙ sym (append_assoc f2 front (t ∷ after))) ∙ sym (append_assoc f1 (f2 ++ front) (t ∷ after)),
-  place,
+  first ∙ ap (λ (l : List TokenAt). f1 ++ l) (second ∙ ap (λ (l : List TokenAt). f2 ++ l) split ∙ sym (append_assoc f2 front (t ∷ after))) ∙ sym (append_assoc f1 (f2 ++ front) (t ∷ after)),
+  offset,
   v,
   ds,
   w,
@@ -550,7 +550,7 @@ headed_again v ts f1 r1 f2 rest n p first second word (is, number) (front, t, af
   again,
 )
 
-file_again : (s : Stop) (ts : List Placed) (n : List ℕ) (p : ℕ) → program_at file_bounds s ts ≡ Err (Duplicate n p) → IsNamedAgain ts n p
+file_again : (s : Stop) (ts : List TokenAt) (n : List ℕ) (p : ℕ) → program_at file_bounds s ts ≡ Err (Duplicate n p) → IsNamedAgain ts n p
 unfolding program_at
 file_again s ts n p e = elim (bind_err (seq (keyword_at (codes "pipeline")) (λ u. version_at) s ts) (λ x. made x.0 (all_at file_bounds x.0 [] s x.1)) (Duplicate n p) e) [
   | inl h ↦ absurd (never_head.never s ts n p h)

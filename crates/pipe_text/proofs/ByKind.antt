@@ -24,7 +24,7 @@ decl_tokens (Worker d) = worker_tokens d
 decl_tokens (Op d) = op_tokens d
 decl_tokens (Node d n) = node_tokens d
 
--- the place of a declaration's kind among the lines of a program
+-- the rank of a declaration's kind among the lines of a program
 rank : Declaration → ℕ
 rank (Input d) = 0
 rank (Pool d) = 1

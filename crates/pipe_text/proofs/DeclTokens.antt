@@ -232,12 +232,12 @@ declared_op v n w p m x c ws k kp km ke kc kr name x1 x2 x3 x4 x5 (g1, (g2, (g3,
     let r1 = each_right IsGood kp (km ++ (ke ++ (kc ++ kr))) g in
     let r2 = each_right IsGood km (ke ++ (kc ++ kr)) r1 in
     let r3 = each_right IsGood ke (kc ++ kr) r2 in
-    let place = part_of (WhereIs file_limits p) kp (place_tokens p) x1 (each_left IsGood kp (km ++ (ke ++ (kc ++ kr))) g) (where_are p kp x1) in
+    let placement = part_of (WhereIs file_limits p) kp (place_tokens p) x1 (each_left IsGood kp (km ++ (ke ++ (kc ++ kr))) g) (where_are p kp x1) in
     let manner = manner_part m km x2 (each_left IsGood km (ke ++ (kc ++ kr)) r1) in
     let keeping = keeping_part v w x ke x3 (each_left IsGood ke (kc ++ kr) r2) in
     let no_cancel = part_of (Flag (codes "no_cancel") c) kc (flag_tokens (codes "no_cancel") c) x4 (each_left IsGood kc kr r3) (flag_are (codes "no_cancel") c kc x4) in
     let run = part_of (RunIs file_limits ws) kr (run_tokens ws) x5 (each_right IsGood kc kr r3) (run_are ws kr x5) in
-    subst (Part (Declares file_limits 64 v (declare.Op (op_of n w p m x c ws)))) (op_line n w p m x c ws) (op_part v n w p m x c ws _ _ _ _ _ g1 (subst IsGood (name_is n k name).0 g2) g3 place manner keeping no_cancel run)
+    subst (Part (Declares file_limits 64 v (declare.Op (op_of n w p m x c ws)))) (op_line n w p m x c ws) (op_part v n w p m x c ws _ _ _ _ _ g1 (subst IsGood (name_is n k name).0 g2) g3 placement manner keeping no_cancel run)
 
 pub declared : (v : ℕ) (d : Declaration) (ks : List Token) → Declares file_limits 64 v d ks → AllGood ks → IsPrinted v d
 declared v d ks (is_input_decl n x k more name y) g =

@@ -6,7 +6,7 @@ use Rattle.std.proofs.lemmas.List.{append-nil}
 use Rattle.value_core.specs.declared.token.Token.{Token}
 use Rattle.value_core.specs.declared.token.Token.TheVariants.{Name, Number, Words, Mark, LongName, LongText}
 use Rattle.value_core.specs.declared.value.Value.TheVariants as value
-use Rattle.value_core.specs.declared.lexing.Placed.{Placed}
+use Rattle.value_core.specs.declared.lexing.TokenAt.{TokenAt}
 use Rattle.value_core.specs.declared.lexing.Stop.{Stop}
 use Rattle.value_core.specs.declared.lexing.Stop.TheVariants as stop
 use Rattle.value_core.specs.Literals.{tokens_in}
@@ -379,34 +379,34 @@ some_tokens lim depth v d ks (is_node_decl n t m k more name x) = omega arith
 -- ---- declarations up to the end
 
 -- The file ends there. The tokens spell declarations, which were put behind those before them.
-pub record AllRead (b : Bounds) (v : ℕ) (before all : List Declaration) (s : Stop) (ts rest : List Placed) : Type 0 where
+pub record AllRead (b : Bounds) (v : ℕ) (before all : List Declaration) (s : Stop) (ts rest : List TokenAt) : Type 0 where
   pub more : List Declaration
-  pub place : ℕ
-  pub stopped : s ≡ stop.End place
+  pub offset : ℕ
+  pub stopped : s ≡ stop.End offset
   pub whole : rest ≡ []
   pub spelled : DeclareAll b.lim b.depth v more (tokens_in ts)
   pub is : all ≡ before ++ more
   pub sound : Sound b before → Sound b all
 
-ended_so : (b : Bounds) (v n : ℕ) (before all : List Declaration) (s : Stop) (rest : List Placed) → decls_at b v n before s [] ≡ Ok (all, rest) → unless_ended before (give before) s [] ≡ Ok (all, rest)
+ended_so : (b : Bounds) (v n : ℕ) (before all : List Declaration) (s : Stop) (rest : List TokenAt) → decls_at b v n before s [] ≡ Ok (all, rest) → unless_ended before (give before) s [] ≡ Ok (all, rest)
 unfolding decls_at
-ended_so b v zero before all (stop.Lex place) rest e = absurd cc
-ended_so b v (suc n) before all (stop.Lex place) rest e = absurd cc
-ended_so b v zero before all (stop.End place) rest e = e
-ended_so b v (suc n) before all (stop.End place) rest e = e
+ended_so b v zero before all (stop.Lex offset) rest e = absurd cc
+ended_so b v (suc n) before all (stop.Lex offset) rest e = absurd cc
+ended_so b v zero before all (stop.End offset) rest e = e
+ended_so b v (suc n) before all (stop.End offset) rest e = e
 
-none_read : (b : Bounds) (v : ℕ) (before all : List Declaration) (s : Stop) (rest : List Placed) → unless_ended before (give before) s [] ≡ Ok (all, rest) → AllRead b v before all s [] rest
-none_read b v before all (stop.Lex place) rest e = absurd cc
-none_read b v before all (stop.End place) rest e =
+none_read : (b : Bounds) (v : ℕ) (before all : List Declaration) (s : Stop) (rest : List TokenAt) → unless_ended before (give before) s [] ≡ Ok (all, rest) → AllRead b v before all s [] rest
+none_read b v before all (stop.Lex offset) rest e = absurd cc
+none_read b v before all (stop.End offset) rest e =
     let parts = ok_is (before, []) (all, rest) e in
-    let same : before ≡ all = ap (λ (y : List Declaration × List Placed). y.0) parts in
-    record { more = []; place = place; stopped = refl; whole = ap (λ (y : List Declaration × List Placed). y.1) (sym parts); spelled = refl; is = sym same ∙ sym (append-nil before); sound = λ s. subst (Sound b) same s }
+    let same : before ≡ all = ap (λ (y : List Declaration × List TokenAt). y.0) parts in
+    record { more = []; offset = offset; stopped = refl; whole = ap (λ (y : List Declaration × List TokenAt). y.1) (sym parts); spelled = refl; is = sym same ∙ sym (append-nil before); sound = λ s. subst (Sound b) same s }
 
-read_more : (b : Bounds) (v : ℕ) (before : List Declaration) (d : Declaration) (all : List Declaration) (s : Stop) (front ts rest : List Placed) → DeclLang b (seen_in v before) d (tokens_in front) → AllRead b v (before ++ d ∷ []) all s ts rest → AllRead b v before all s (front ++ ts) rest
+read_more : (b : Bounds) (v : ℕ) (before : List Declaration) (d : Declaration) (all : List Declaration) (s : Stop) (front ts rest : List TokenAt) → DeclLang b (seen_in v before) d (tokens_in front) → AllRead b v (before ++ d ∷ []) all s ts rest → AllRead b v before all s (front ++ ts) rest
 read_more b v before d all s front ts rest (one_decl, fits) more =
     record {
       more = d ∷ more.more;
-      place = more.place;
+      offset = more.offset;
       stopped = more.stopped;
       whole = more.whole;
       spelled = (tokens_in front, tokens_in ts, tokens_in-append front ts, one_decl, more.spelled);
@@ -415,7 +415,7 @@ read_more b v before d all s front ts rest (one_decl, fits) more =
     }
 
 -- What is read up to the end is spelled so.
-pub decls_read : (b : Bounds) (v n : ℕ) (before all : List Declaration) (s : Stop) (ts rest : List Placed) → decls_at b v n before s ts ≡ Ok (all, rest) → AllRead b v before all s ts rest
+pub decls_read : (b : Bounds) (v n : ℕ) (before all : List Declaration) (s : Stop) (ts rest : List TokenAt) → decls_at b v n before s ts ≡ Ok (all, rest) → AllRead b v before all s ts rest
 unfolding decls_at
 decls_read b v n before all s [] rest e = none_read b v before all s rest (ended_so b v n before all s rest e)
 decls_read b v zero before all s (t ∷ ts) rest e = absurd cc
@@ -426,12 +426,12 @@ decls_read b v (suc n) before all s (t ∷ ts) rest e =
 
 -- ---- a loop over declarations
 
-tokens_in-length : (ts : List Placed) → length (tokens_in ts) ≡ length ts
+tokens_in-length : (ts : List TokenAt) → length (tokens_in ts) ≡ length ts
 tokens_in-length [] = refl
 tokens_in-length (t ∷ ts) = ap suc (tokens_in-length ts)
 
 -- a declaration takes a token
-pub shorter : (b : Bounds) (seen : Seen) (d : Declaration) (s : Stop) (ts rest : List Placed) → decl_at b seen s ts ≡ Ok (d, rest) → length rest < length ts
+pub shorter : (b : Bounds) (seen : Seen) (d : Declaration) (s : Stop) (ts rest : List TokenAt) → decl_at b seen s ts ≡ Ok (d, rest) → length rest < length ts
 shorter b seen d s ts rest e =
     let f = (finds_decl b seen).found s ts d rest e in
     let some : 0 < length (tokens_in f.0) = some_tokens b.lim b.depth seen.version d (tokens_in f.0) f.2.0 in
@@ -439,23 +439,23 @@ shorter b seen d s ts rest e =
     let sum = length-append f.0 rest in
     rw f.1 (omega (arith, some, same, sum))
 
-go_same : (b : Bounds) (v n m size : ℕ) (before : List Declaration) (s : Stop) (r : Result (Declaration × List Placed) Fault) → ((d : Declaration) (rest : List Placed) → r ≡ Ok (d, rest) → length rest < size)
-    → ((ds : List Declaration) (rest : List Placed) → length rest < size → decls_at b v n ds s rest ≡ decls_at b v m ds s rest) → (r >>= λ y. decls_at b v n (before ++ y.0 ∷ []) s y.1) ≡ (r >>= λ y. decls_at b v m (before ++ y.0 ∷ []) s y.1)
+go_same : (b : Bounds) (v n m size : ℕ) (before : List Declaration) (s : Stop) (r : Result (Declaration × List TokenAt) Fault) → ((d : Declaration) (rest : List TokenAt) → r ≡ Ok (d, rest) → length rest < size)
+    → ((ds : List Declaration) (rest : List TokenAt) → length rest < size → decls_at b v n ds s rest ≡ decls_at b v m ds s rest) → (r >>= λ y. decls_at b v n (before ++ y.0 ∷ []) s y.1) ≡ (r >>= λ y. decls_at b v m (before ++ y.0 ∷ []) s y.1)
 go_same b v n m size before s (Ok y) short same = same (before ++ y.0 ∷ []) y.1 (short y.0 y.1 refl)
 go_same b v n m size before s (Err f) short same = refl
 
 at_end_same : (b : Bounds) (v n m : ℕ) (before : List Declaration) (s : Stop) → decls_at b v n before s [] ≡ decls_at b v m before s []
 unfolding decls_at
 at_end_same b v zero zero before s = refl
-at_end_same b v zero (suc m) before (stop.Lex place) = refl
-at_end_same b v zero (suc m) before (stop.End place) = refl
-at_end_same b v (suc n) zero before (stop.Lex place) = refl
-at_end_same b v (suc n) zero before (stop.End place) = refl
-at_end_same b v (suc n) (suc m) before (stop.Lex place) = refl
-at_end_same b v (suc n) (suc m) before (stop.End place) = refl
+at_end_same b v zero (suc m) before (stop.Lex offset) = refl
+at_end_same b v zero (suc m) before (stop.End offset) = refl
+at_end_same b v (suc n) zero before (stop.Lex offset) = refl
+at_end_same b v (suc n) zero before (stop.End offset) = refl
+at_end_same b v (suc n) (suc m) before (stop.Lex offset) = refl
+at_end_same b v (suc n) (suc m) before (stop.End offset) = refl
 
 -- the bound on the tokens that are left plays no part
-pub enough : (b : Bounds) (v n m : ℕ) (before : List Declaration) (s : Stop) (ts : List Placed) → length ts ≤ n → length ts ≤ m → decls_at b v n before s ts ≡ decls_at b v m before s ts
+pub enough : (b : Bounds) (v n m : ℕ) (before : List Declaration) (s : Stop) (ts : List TokenAt) → length ts ≤ n → length ts ≤ m → decls_at b v n before s ts ≡ decls_at b v m before s ts
 unfolding decls_at
 enough b v n m before s [] few also = at_end_same b v n m before s
 enough b v zero m before s (t ∷ ts) few also = absurd (omega arith)

@@ -6,7 +6,7 @@ use Rattle.std.proofs.lemmas.List.{append-nil}
 use Rattle.value_core.specs.declared.token.Token.{Token}
 use Rattle.value_core.specs.declared.token.Token.TheVariants.{Name, Number, Words, Mark, LongName, LongText}
 use Rattle.value_core.specs.declared.value.Value.TheVariants as value
-use Rattle.value_core.specs.declared.lexing.Placed.{Placed}
+use Rattle.value_core.specs.declared.lexing.TokenAt.{TokenAt}
 use Rattle.value_core.specs.declared.lexing.Stop.{Stop}
 use Rattle.value_core.specs.declared.lexing.Stop.TheVariants as stop
 use Rattle.value_core.specs.Literals.{tokens_in}
@@ -112,7 +112,7 @@ abbrev pub Leads : (Token → Bool) → List Token → Type 0
 Leads test [] = ⊥
 Leads test (k ∷ ks) = test k ≡ false
 
-lead_next : (test : Token → Bool) (front rest : List Placed) (ks : List Token) → tokens_in front ≡ ks → Leads test ks → Not test (front ++ rest)
+lead_next : (test : Token → Bool) (front rest : List TokenAt) (ks : List Token) → tokens_in front ≡ ks → Leads test ks → Not test (front ++ rest)
 lead_next test [] rest [] e l = absurd l
 lead_next test [] rest (k ∷ ks) e l = absurd cc
 lead_next test (t ∷ front) rest [] e l = absurd l
@@ -140,10 +140,10 @@ leads_keeping test lim v w x ks more first second third is_output_keeping h = h
 pub reads_keyword : (letters : List ℕ) → only letters letters ≡ Some tt → Takes (keyword_at letters) tt (Name letters ∷ [])
 reads_keyword letters e = reads_word (only letters) letters tt e
 
-reads_behind : {A : Type 0} (P : List Placed → Type 0) (letters : List ℕ) (r q : Reader A) (a : A) (ks : List Token) → only letters letters ≡ Some tt → is_keyword letters (Name letters) ≡ true → ReadsIf P r a ks → ReadsIf P (if_keyword letters r q) a (Name letters ∷ ks)
+reads_behind : {A : Type 0} (P : List TokenAt → Type 0) (letters : List ℕ) (r q : Reader A) (a : A) (ks : List Token) → only letters letters ≡ Some tt → is_keyword letters (Name letters) ≡ true → ReadsIf P r a ks → ReadsIf P (if_keyword letters r q) a (Name letters ∷ ks)
 reads_behind P letters r q a ks e is x = reads_yes P (is_keyword letters) (seq (keyword_at letters) (λ u. r)) q (Name letters) a ks is (reads_then P (keyword_at letters) (λ u. r) tt a (Name letters ∷ []) ks (reads_keyword letters e) x)
 
-raw_pass : {A : Type 0} (letters : List ℕ) (r q : Reader A) (a : A) → Takes q a [] → (s : Stop) (front rest : List Placed) → tokens_in front ≡ [] → Not (is_keyword letters) rest → if_keyword letters r q s (front ++ rest) ≡ Ok (a, rest)
+raw_pass : {A : Type 0} (letters : List ℕ) (r q : Reader A) (a : A) → Takes q a [] → (s : Stop) (front rest : List TokenAt) → tokens_in front ≡ [] → Not (is_keyword letters) rest → if_keyword letters r q s (front ++ rest) ≡ Ok (a, rest)
 raw_pass letters r q a x s [] rest e n = rw n (x.reads s [] rest refl tt)
 raw_pass letters r q a x s (t ∷ front) rest e n = absurd cc
 
@@ -163,7 +163,7 @@ reads_on b ks (is, none) = rw (is, none) (reads_give Any true)
 -- ---- an input's value
 
 -- no `watch` comes next
-abbrev pub NoWatch : List Placed → Type 0
+abbrev pub NoWatch : List TokenAt → Type 0
 NoWatch = Not (is_keyword (codes "watch"))
 
 reads_value : (lim wide : Limits) (v : InputValue) (ks : List Token) → Under lim wide → ValueIs lim v ks → ReadsIf NoWatch (value_at wide) v ks
@@ -194,14 +194,14 @@ reads_where lim wide x ks u (is_where p c m n kp kc km kn np nc nm nn) =
     (reads_as Any (number_at wide limit.Cost) (λ y. record { pool = p; client = c; full = m; cached = y }) n (kn ∷ []) (reads_number lim wide limit.Cost n kn u nn)))))))
 
 -- none of the words of the settings comes next
-abbrev NoSetting : List Placed → Type 0
+abbrev NoSetting : List TokenAt → Type 0
 NoSetting rest = Not (is_keyword (codes "hint")) rest × Not (is_keyword (codes "urgent")) rest × Not (is_keyword (codes "level")) rest
 
-weaken : {A : Type 0} (P Q : List Placed → Type 0) (r : Reader A) (a : A) (ks : List Token) → ((rest : List Placed) → P rest → Q rest) → ReadsIf Q r a ks → ReadsIf P r a ks
+weaken : {A : Type 0} (P Q : List TokenAt → Type 0) (r : Reader A) (a : A) (ks : List Token) → ((rest : List TokenAt) → P rest → Q rest) → ReadsIf Q r a ks → ReadsIf P r a ks
 weaken P Q r a ks to x = record { reads = λ s front rest e p. x.reads s front rest e (to rest p) }
 
 -- behind an optional part the token that isn't its word comes next, or that of what follows
-next_optional : {A : Type 0} (test : Token → Bool) (letters : List ℕ) (L : A → List Token → Type 0) (d a : A) (ks : List Token) → test (Name letters) ≡ false → Optional letters L d a ks → (front rest : List Placed) → tokens_in front ≡ ks → Not test rest → Not test (front ++ rest)
+next_optional : {A : Type 0} (test : Token → Bool) (letters : List ℕ) (L : A → List Token → Type 0) (d a : A) (ks : List Token) → test (Name letters) ≡ false → Optional letters L d a ks → (front rest : List TokenAt) → tokens_in front ≡ ks → Not test rest → Not test (front ++ rest)
 next_optional test letters L d a ks other (is_given b ls l) [] rest e h = absurd cc
 next_optional test letters L d a ks other (is_given b ls l) (t ∷ front) rest e h = rw (cons_is t.token (Name letters) (tokens_in front) ls e).0 other
 next_optional test letters L d a ks other is_absent [] rest e h = h
@@ -232,10 +232,10 @@ reads_offset : (lim wide : Limits) (o : ℤ) (ks : List Token) → Under lim wid
 reads_offset lim wide o ks u (s, n, k, is, parts, l) = rw (is, parts) (reads_then Any (word_at side_word) _ s (offset_of s n) (Name (side_letters s) ∷ []) (k ∷ []) (reads_word side_word (side_letters s) s (side_word_is s)) (reads_as Any (number_at wide limit.Offset) (offset_of s) n (k ∷ []) (reads_number lim wide limit.Offset n k u l)))
 
 -- no word of an expiry comes next
-abbrev NoExpiry : List Placed → Type 0
+abbrev NoExpiry : List TokenAt → Type 0
 NoExpiry rest = Not (is_keyword (codes "valid_for")) rest × Not (is_keyword (codes "schedule")) rest
 
-raw_never : (wide : Limits) (v : ℕ) (b : Bool) (s : Stop) (front rest : List Placed) → (v == 2) ≡ b → tokens_in front ≡ [] → NoExpiry rest → expiry_at wide v s (front ++ rest) ≡ Ok (Never, rest)
+raw_never : (wide : Limits) (v : ℕ) (b : Bool) (s : Stop) (front rest : List TokenAt) → (v == 2) ≡ b → tokens_in front ≡ [] → NoExpiry rest → expiry_at wide v s (front ++ rest) ≡ Ok (Never, rest)
 unfolding expiry_at
 raw_never wide v true s [] rest is e (first, second) = rw (first, is, second) refl
 raw_never wide v false s [] rest is e (first, second) = rw (first, is) refl
@@ -262,7 +262,7 @@ reads_expiry lim wide v e ks u (is_monthly d m o j k ls two y l x) = reads_if No
     (reads_then Any (number_at wide limit.Minute) _ m (Monthly d m o) (k ∷ []) ls (reads_number lim wide limit.Minute m k u l) (reads_as Any (offset_at wide) (λ z. Monthly d m z) o ls (reads_offset lim wide o ls u x))))))
 
 -- no word of what a build says of its results comes next
-abbrev NoKeeping : List Placed → Type 0
+abbrev NoKeeping : List TokenAt → Type 0
 NoKeeping rest = Not (is_keyword (codes "valid_for")) rest × Not (is_keyword (codes "schedule")) rest × Not (is_keyword (codes "latched")) rest
 
 reads_keeping : (lim wide : Limits) (v : ℕ) (w : OpWord) (x : Keeping) (ks : List Token) → Under lim wide → KeepingIs lim v w x ks → ReadsIf NoKeeping (keeping_at wide v w) x ks
@@ -336,7 +336,7 @@ and_false true = refl
 and_false false = refl
 
 -- neither a string nor `watch` comes next
-abbrev pub Behind : List Placed → Type 0
+abbrev pub Behind : List TokenAt → Type 0
 Behind rest = NoString rest × NoWatch rest
 
 starts : (b : Bounds) (seen : Seen) (w : DeclWord) (d : Declaration) (ks : List Token) → ReadsIf Behind (rest_at b seen w) d ks → ReadsIf Behind (decl_at b seen) d (Name (decl_letters w) ∷ ks)
@@ -401,53 +401,53 @@ no_watch_word decl.Worker = refl
 no_watch_word decl.Op = refl
 no_watch_word decl.Node = refl
 
-behind_first : (ts : List Placed) (ks more : List Token) (w : DeclWord) → tokens_in ts ≡ ks → ks ≡ Name (decl_letters w) ∷ more → Behind ts
+behind_first : (ts : List TokenAt) (ks more : List Token) (w : DeclWord) → tokens_in ts ≡ ks → ks ≡ Name (decl_letters w) ∷ more → Behind ts
 behind_first [] ks more w e is = absurd cc
 behind_first (t ∷ ts) ks more w e is = let first = (cons_is t.token (Name (decl_letters w)) (tokens_in ts) more (e ∙ is)).0 in (rw first refl, rw first (no_watch_word w))
 
-pub behind_all : (lim : Limits) (depth v : ℕ) (ds : List Declaration) (ts : List Placed) → DeclareAll lim depth v ds (tokens_in ts) → Behind ts
+pub behind_all : (lim : Limits) (depth v : ℕ) (ds : List Declaration) (ts : List TokenAt) → DeclareAll lim depth v ds (tokens_in ts) → Behind ts
 behind_all lim depth v [] ts none = rw (nil_of ts none) (refl, refl)
 behind_all lim depth v (d ∷ ds) ts (k1, k2, parts, x, more) = let f = first_of lim depth v d k1 x in behind_first ts (tokens_in ts) (f.1 ++ k2) f.0 refl (parts ∙ (λ i. f.2 i ++ k2))
 
 no_tokens_first : (w : DeclWord) (more : List Token) → [] ≡ Name (decl_letters w) ∷ more → ⊥
 no_tokens_first w more e = cc
 
-ends_so : (b : Bounds) (v n : ℕ) (before : List Declaration) (place : ℕ) → decls_at b v n before (stop.End place) [] ≡ Ok (before, [])
+ends_so : (b : Bounds) (v n : ℕ) (before : List Declaration) (offset : ℕ) → decls_at b v n before (stop.End offset) [] ≡ Ok (before, [])
 unfolding decls_at
-ends_so b v zero before place = refl
-ends_so b v (suc n) before place = refl
+ends_so b v zero before offset = refl
+ends_so b v (suc n) before offset = refl
 
-next_so : (b : Bounds) (v n : ℕ) (before all : List Declaration) (d : Declaration) (place : ℕ) (f1 f2 : List Placed) → 0 < length f1 → decl_at b (seen_in v before) (stop.End place) (f1 ++ f2) ≡ Ok (d, f2) → decls_at b v n (before ++ d ∷ []) (stop.End place) f2 ≡ Ok (all, []) → decls_at b v (suc n) before (stop.End place) (f1 ++ f2) ≡ Ok (all, [])
+next_so : (b : Bounds) (v n : ℕ) (before all : List Declaration) (d : Declaration) (offset : ℕ) (f1 f2 : List TokenAt) → 0 < length f1 → decl_at b (seen_in v before) (stop.End offset) (f1 ++ f2) ≡ Ok (d, f2) → decls_at b v n (before ++ d ∷ []) (stop.End offset) f2 ≡ Ok (all, []) → decls_at b v (suc n) before (stop.End offset) (f1 ++ f2) ≡ Ok (all, [])
 unfolding decls_at
-next_so b v n before all d place [] f2 some e h = absurd (omega (arith, some))
-next_so b v n before all d place (t ∷ f1) f2 some e h = rw e h
+next_so b v n before all d offset [] f2 some e h = absurd (omega (arith, some))
+next_so b v n before all d offset (t ∷ f1) f2 some e h = rw e h
 
-tokens_in-length : (ts : List Placed) → length (tokens_in ts) ≡ length ts
+tokens_in-length : (ts : List TokenAt) → length (tokens_in ts) ≡ length ts
 tokens_in-length [] = refl
 tokens_in-length (t ∷ ts) = ap suc (tokens_in-length ts)
 
 -- Declarations that are spelled so are read up to the end, where they keep the bounds.
 pub all_declared : (lim : Limits) (depth : ℕ) (b : Bounds) (v : ℕ) (ds : List Declaration) → Under lim b.lim → depth ≤ b.depth
-    → (before : List Declaration) (n place : ℕ) (ts : List Placed) → DeclareAll lim depth v ds (tokens_in ts) → length ts ≤ n → Sound b (before ++ ds) → decls_at b v n before (stop.End place) ts ≡ Ok (before ++ ds, [])
-all_declared lim depth b v [] u deep before n place ts none few sound = rw (nil_of ts none, append-nil before) (ends_so b v n before place)
-all_declared lim depth b v (d ∷ ds) u deep before zero place ts (k1, k2, parts, x, more) few sound =
+    → (before : List Declaration) (n offset : ℕ) (ts : List TokenAt) → DeclareAll lim depth v ds (tokens_in ts) → length ts ≤ n → Sound b (before ++ ds) → decls_at b v n before (stop.End offset) ts ≡ Ok (before ++ ds, [])
+all_declared lim depth b v [] u deep before n offset ts none few sound = rw (nil_of ts none, append-nil before) (ends_so b v n before offset)
+all_declared lim depth b v (d ∷ ds) u deep before zero offset ts (k1, k2, parts, x, more) few sound =
     let some = some_tokens lim depth v d k1 x in
     let same = tokens_in-length ts in
     let sum = length-append k1 k2 in
     let whole : length (tokens_in ts) ≡ length (k1 ++ k2) = ap length parts in
     absurd (omega (arith, some, same, sum, whole, few))
-all_declared lim depth b v (d ∷ ds) u deep before (suc n) place ts (k1, k2, parts, x, more) few sound =
+all_declared lim depth b v (d ∷ ds) u deep before (suc n) offset ts (k1, k2, parts, x, more) few sound =
     let split = split_tokens_in ts k1 k2 parts in
     let rest_spelled : DeclareAll lim depth v ds (tokens_in split.1) = rw split.4 more in
     let fits = next_fits b v before d ds sound in
-    let read = (reads_decl lim depth b (seen_in v before) d k1 u deep (λ m. no_client m before) x fits).reads (stop.End place) split.0 split.1 split.3 (behind_all lim depth v ds split.1 rest_spelled) in
+    let read = (reads_decl lim depth b (seen_in v before) d k1 u deep (λ m. no_client m before) x fits).reads (stop.End offset) split.0 split.1 split.3 (behind_all lim depth v ds split.1 rest_spelled) in
     let some = some_tokens lim depth v d k1 x in
     let same = tokens_in-length split.0 in
     let kept : length (tokens_in split.0) ≡ length k1 = ap length split.3 in
     let sum = length-append split.0 split.1 in
     let whole : length ts ≡ length (split.0 ++ split.1) = ap length split.2 in
     let shorter : length split.1 ≤ n = omega (arith, some, same, kept, sum, whole, few) in
-    let later : decls_at b v n (before ++ d ∷ []) (stop.End place) split.1 ≡ Ok (before ++ d ∷ ds, []) =
-    subst (λ (l : List Declaration). decls_at b v n (before ++ d ∷ []) (stop.End place) split.1 ≡ Ok (l, [])) (append_assoc before (d ∷ []) ds)
-    (all_declared lim depth b v ds u deep (before ++ d ∷ []) n place split.1 rest_spelled shorter (subst (Sound b) (sym (append_assoc before (d ∷ []) ds)) sound)) in
-    rw split.2 (next_so b v n before (before ++ d ∷ ds) d place split.0 split.1 (omega (arith, some, same, kept)) read later)
+    let later : decls_at b v n (before ++ d ∷ []) (stop.End offset) split.1 ≡ Ok (before ++ d ∷ ds, []) =
+    subst (λ (l : List Declaration). decls_at b v n (before ++ d ∷ []) (stop.End offset) split.1 ≡ Ok (l, [])) (append_assoc before (d ∷ []) ds)
+    (all_declared lim depth b v ds u deep (before ++ d ∷ []) n offset split.1 rest_spelled shorter (subst (Sound b) (sym (append_assoc before (d ∷ []) ds)) sound)) in
+    rw split.2 (next_so b v n before (before ++ d ∷ ds) d offset split.0 split.1 (omega (arith, some, same, kept)) read later)

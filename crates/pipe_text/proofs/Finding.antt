@@ -6,7 +6,7 @@ use Rattle.std.proofs.lemmas.List.{append-nil}
 use Rattle.std.proofs.Common.{arith}
 use Rattle.value_core.specs.declared.token.Token.{Token}
 use Rattle.value_core.specs.declared.token.Token.TheVariants.{Name, Number, Words, Mark, LongName, LongText}
-use Rattle.value_core.specs.declared.lexing.Placed.{Placed}
+use Rattle.value_core.specs.declared.lexing.TokenAt.{TokenAt}
 use Rattle.pipe_text.specs.declared.fault.Fault.{Fault}
 use Rattle.value_core.specs.declared.lexing.Stop.{Stop}
 use Rattle.value_core.specs.Literals.{tokens_in}
@@ -15,7 +15,7 @@ use Rattle.pipe_text.proofs.Exactly.{tokens_in-append}
 
 -- what is read is in the language
 pub record Finds {A : Type 0} (r : Reader A) (L : A → List Token → Type 0) : Type 0 where
-  pub found : (s : Stop) (ts : List Placed) (a : A) (rest : List Placed) → r s ts ≡ Ok (a, rest) → (front : List Placed) × (ts ≡ front ++ rest) × L a (tokens_in front)
+  pub found : (s : Stop) (ts : List TokenAt) (a : A) (rest : List TokenAt) → r s ts ≡ Ok (a, rest) → (front : List TokenAt) × (ts ≡ front ++ rest) × L a (tokens_in front)
 
 pub bind_ok : {A B : Type 0} (r : Result A Fault) (f : A → Result B Fault) (y : B) → (r >>= f) ≡ Ok y → (x : A) × (r ≡ Ok x) × (f x ≡ Ok y)
 bind_ok (Ok x) f y e = (x, refl, e)
@@ -35,7 +35,7 @@ Nothing a b ks = (b ≡ a) × (ks ≡ [])
 
 pub finds_give : {A : Type 0} (a : A) → Finds (give a) (Nothing a)
 finds_give {A} a = record {
-  found = λ s ts b rest e. let p = ok_is (a, ts) (b, rest) e in ([], ap (λ (x : A × List Placed). x.1) p, (sym (ap (λ (x : A × List Placed). x.0) p), refl));
+  found = λ s ts b rest e. let p = ok_is (a, ts) (b, rest) e in ([], ap (λ (x : A × List TokenAt). x.1) p, (sym (ap (λ (x : A × List TokenAt). x.0) p), refl));
 }
 
 abbrev pub Then : {A B : Type 0} → (A → List Token → Type 0) → (A → B → List Token → Type 0) → B → List Token → Type 0
@@ -48,7 +48,7 @@ finds_seq {A} {B} r f L M xr xf = record {
       let first = xr.found s ts x.0.0 x.0.1 x.1 in
       let second = (xf x.0.0).found s x.0.1 b rest x.2 in (
         first.0 ++ second.0,
-        first.1 ∙ ap (λ (l : List Placed). first.0 ++ l) second.1 ∙ sym (append_assoc first.0 second.0 rest),
+        first.1 ∙ ap (λ (l : List TokenAt). first.0 ++ l) second.1 ∙ sym (append_assoc first.0 second.0 rest),
         (x.0.0, tokens_in first.0, tokens_in second.0, tokens_in-append first.0 second.0, first.2, second.2),
       );
 }
@@ -76,15 +76,15 @@ for_if false x y L f g = g refl
 abbrev pub ByFirst : {A : Type 0} → (Token → A → List Token → Type 0) → A → List Token → Type 0
 ByFirst L a ks = (k : Token) × (more : List Token) × (ks ≡ k ∷ more) × L k a more
 
-go_found : {A : Type 0} (o : Choice A) (L : A → List Token → Type 0) (place : ℕ) (s : Stop) (ts : List Placed) (a : A) (rest : List Placed) → FindsFor o L → go o place s ts ≡ Ok (a, rest) → (front : List Placed) × (ts ≡ front ++ rest) × L a (tokens_in front)
-go_found (Err f) L place s ts a rest x e = absurd cc
-go_found (Ok r) L place s ts a rest x e = x.found s ts a rest e
+go_found : {A : Type 0} (o : Choice A) (L : A → List Token → Type 0) (offset : ℕ) (s : Stop) (ts : List TokenAt) (a : A) (rest : List TokenAt) → FindsFor o L → go o offset s ts ≡ Ok (a, rest) → (front : List TokenAt) × (ts ≡ front ++ rest) × L a (tokens_in front)
+go_found (Err f) L offset s ts a rest x e = absurd cc
+go_found (Ok r) L offset s ts a rest x e = x.found s ts a rest e
 
-branch_found : {A : Type 0} (table : Token → Choice A) (L : Token → A → List Token → Type 0) → ((k : Token) → FindsFor (table k) (L k)) → (s : Stop) (ts : List Placed) (a : A) (rest : List Placed) → branch table s ts ≡ Ok (a, rest) → (front : List Placed) × (ts ≡ front ++ rest) × ByFirst L a (tokens_in front)
+branch_found : {A : Type 0} (table : Token → Choice A) (L : Token → A → List Token → Type 0) → ((k : Token) → FindsFor (table k) (L k)) → (s : Stop) (ts : List TokenAt) (a : A) (rest : List TokenAt) → branch table s ts ≡ Ok (a, rest) → (front : List TokenAt) × (ts ≡ front ++ rest) × ByFirst L a (tokens_in front)
 branch_found table L x s [] a rest e = absurd cc
 branch_found table L x s (t ∷ ts) a rest e =
-    let f = go_found (table t.token) (L t.token) t.place s ts a rest (x t.token) e in
-    (t ∷ f.0, ap (λ (l : List Placed). t ∷ l) f.1, (t.token, tokens_in f.0, refl, f.2))
+    let f = go_found (table t.token) (L t.token) t.offset s ts a rest (x t.token) e in
+    (t ∷ f.0, ap (λ (l : List TokenAt). t ∷ l) f.1, (t.token, tokens_in f.0, refl, f.2))
 
 pub finds_branch : {A : Type 0} (table : Token → Choice A) (L : Token → A → List Token → Type 0) → ((k : Token) → FindsFor (table k) (L k)) → Finds (branch table) (ByFirst L)
 finds_branch table L x = record { found = branch_found table L x }
@@ -97,7 +97,7 @@ if_ok false x y z e = inr e
 abbrev pub Either : {A : Type 0} → (A → List Token → Type 0) → (A → List Token → Type 0) → A → List Token → Type 0
 Either L M a ks = L a ks ⊎ M a ks
 
-peek_found : {A : Type 0} (test : Token → Bool) (r q : Reader A) (L M : A → List Token → Type 0) → Finds r L → Finds q M → (s : Stop) (ts : List Placed) (a : A) (rest : List Placed) → peek test r q s ts ≡ Ok (a, rest) → (front : List Placed) × (ts ≡ front ++ rest) × Either L M a (tokens_in front)
+peek_found : {A : Type 0} (test : Token → Bool) (r q : Reader A) (L M : A → List Token → Type 0) → Finds r L → Finds q M → (s : Stop) (ts : List TokenAt) (a : A) (rest : List TokenAt) → peek test r q s ts ≡ Ok (a, rest) → (front : List TokenAt) × (ts ≡ front ++ rest) × Either L M a (tokens_in front)
 peek_found test r q L M x y s ts a rest e = elim (if_ok (next_passes test ts) (r s ts) (q s ts) (a, rest) e) [
   | inl h ↦ let f = x.found s ts a rest h in (f.0, f.1, inl f.2)
   | inr h ↦ let f = y.found s ts a rest h in (f.0, f.1, inr f.2)

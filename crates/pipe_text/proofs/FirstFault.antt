@@ -5,7 +5,7 @@ use Rattle.std.proofs.lemmas.Bool.Decides.{nat_tests}
 use Rattle.std.proofs.lemmas.List.{append-nil}
 use Rattle.value_core.specs.declared.token.Token.{Token}
 use Rattle.value_core.specs.declared.token.Token.TheVariants.{Name, Number, Words, Mark, LongName, LongText}
-use Rattle.value_core.specs.declared.lexing.Placed.{Placed}
+use Rattle.value_core.specs.declared.lexing.TokenAt.{TokenAt}
 use Rattle.value_core.specs.declared.lexing.Stop.{Stop}
 use Rattle.value_core.specs.declared.lexing.Stop.TheVariants as stop
 use Rattle.value_core.specs.Lexing.{lexed}
@@ -43,21 +43,21 @@ AllG b v before all ks = (more : List Declaration) × (all ≡ before ++ more) �
 abbrev AllAt : ℕ → List Declaration → Bounds → Reader (List Declaration)
 AllAt v before e = all_at e v before
 
-open_same : (e : Bounds) (v n size : ℕ) (before : List Declaration) (s : Stop) (r : Result (Declaration × List Placed) Fault) → ((d : Declaration) (rest : List Placed) → r ≡ Ok (d, rest) → length rest < size) → size ≤ suc n
+open_same : (e : Bounds) (v n size : ℕ) (before : List Declaration) (s : Stop) (r : Result (Declaration × List TokenAt) Fault) → ((d : Declaration) (rest : List TokenAt) → r ≡ Ok (d, rest) → length rest < size) → size ≤ suc n
     → (r >>= λ y. decls_at e v n (before ++ y.0 ∷ []) s y.1) ≡ (r >>= λ y. all_at e v (before ++ y.0 ∷ []) s y.1)
 unfolding all_at
 open_same e v n size before s (Ok y) short fits = let less = short y.0 y.1 refl in enough e v n (length y.1) (before ++ y.0 ∷ []) s y.1 (omega (arith, less, fits)) (omega arith)
 open_same e v n size before s (Err f) short fits = refl
 
 -- one declaration, and those behind it
-pub all_open : (e : Bounds) (v : ℕ) (before : List Declaration) (s : Stop) (u : Placed) (more : List Placed) → all_at e v before s (u ∷ more) ≡ (decl_at e (seen_in v before) s (u ∷ more) >>= λ y. all_at e v (before ++ y.0 ∷ []) s y.1)
+pub all_open : (e : Bounds) (v : ℕ) (before : List Declaration) (s : Stop) (u : TokenAt) (more : List TokenAt) → all_at e v before s (u ∷ more) ≡ (decl_at e (seen_in v before) s (u ∷ more) >>= λ y. all_at e v (before ++ y.0 ∷ []) s y.1)
 unfolding all_at decls_at
 all_open e v before s u more = open_same e v (length more) (length (u ∷ more)) before s (decl_at e (seen_in v before) s (u ∷ more)) (λ d rest h. shorter e (seen_in v before) d s (u ∷ more) rest h) (omega arith)
 
-open_at : (e : Bounds) (v : ℕ) (before : List Declaration) (s : Stop) (ts : List Placed) (u : Placed) (more : List Placed) → ts ≡ u ∷ more → all_at e v before s ts ≡ (decl_at e (seen_in v before) s ts >>= λ y. all_at e v (before ++ y.0 ∷ []) s y.1)
+open_at : (e : Bounds) (v : ℕ) (before : List Declaration) (s : Stop) (ts : List TokenAt) (u : TokenAt) (more : List TokenAt) → ts ≡ u ∷ more → all_at e v before s ts ≡ (decl_at e (seen_in v before) s ts >>= λ y. all_at e v (before ++ y.0 ∷ []) s y.1)
 open_at e v before s ts u more is = rw is (all_open e v before s u more)
 
-first_token : (front after : List Placed) (t : Placed) → (u : Placed) × (more : List Placed) × (front ++ t ∷ after ≡ u ∷ more)
+first_token : (front after : List TokenAt) (t : TokenAt) → (u : TokenAt) × (more : List TokenAt) × (front ++ t ∷ after ≡ u ∷ more)
 first_token [] after t = (t, after, refl)
 first_token (u ∷ front) after t = (u, front ++ t ∷ after, refl)
 
@@ -78,10 +78,10 @@ begins_all b v before =
     let d : Declaration = declare.Pool (record { name = []; hold = 0 }) in
     (before ++ d ∷ [], Name (decl_letters decl.Pool), Name [] ∷ Name (codes "hold") ∷ Number 0 ∷ [], (d ∷ [], refl, (Name (decl_letters decl.Pool) ∷ Name [] ∷ Name (codes "hold") ∷ Number 0 ∷ [], [], refl, is_pool_decl [] 0 (Name []) (Number 0) refl (refl, refl), refl)))
 
-abbrev Judged : Bounds → ℕ → List Declaration → Stop → List Placed → Fault → Type 0
+abbrev Judged : Bounds → ℕ → List Declaration → Stop → List TokenAt → Fault → Type 0
 Judged b v before s ts f = Ended b (AllAt v before) (AllG b v before) s ts f ⊎ AtToken b (AllAt v before) (AllG b v before) ts f
 
-abbrev refused : Fault → Result (List Declaration × List Placed) Fault
+abbrev refused : Fault → Result (List Declaration × List TokenAt) Fault
 refused f = Err f
 
 err_is : (f g : Fault) → refused f ≡ refused g → f ≡ g
@@ -92,7 +92,7 @@ unfolding all_at decls_at
 none_judged b v before (stop.Lex p) f e = inl (sym (err_is (Lex p) f e), begins_all b v before, λ e' w. e)
 none_judged b v before (stop.End p) f e = absurd cc
 
-decl_judged : (b : Bounds) (v : ℕ) (before : List Declaration) (s : Stop) (t : Placed) (ts : List Placed) (f : Fault) → decl_at b (seen_in v before) s (t ∷ ts) ≡ Err f → Judged b v before s (t ∷ ts) f
+decl_judged : (b : Bounds) (v : ℕ) (before : List Declaration) (s : Stop) (t : TokenAt) (ts : List TokenAt) (f : Fault) → decl_at b (seen_in v before) s (t ∷ ts) ≡ Err f → Judged b v before s (t ∷ ts) f
 decl_judged b v before s t ts f one_err = elim ((part_decl b (seen_in v before)).local.err s (t ∷ ts) f one_err) [
   | inl (is, begins, all) ↦ inl (is, begins_one b v before (tokens_in (t ∷ ts)) begins, λ e' w. all_open e' v before s t ts ∙ err_stays _ _ _ (all e' w))
   | inr (front, u, after, parts, says, local) ↦ inr (
@@ -105,25 +105,25 @@ decl_judged b v before s t ts f one_err = elim ((part_decl b (seen_in v before))
   )
 ]
 
-later_judged : (b : Bounds) (v : ℕ) (before : List Declaration) (s : Stop) (t : Placed) (ts : List Placed) (f : Fault) (d : Declaration) (rest : List Placed) → Taken b (λ e. decl_at e (seen_in v before)) (DeclG b v) s (t ∷ ts) d rest → Judged b v (before ++ d ∷ []) s rest f → Judged b v before s (t ∷ ts) f
+later_judged : (b : Bounds) (v : ℕ) (before : List Declaration) (s : Stop) (t : TokenAt) (ts : List TokenAt) (f : Fault) (d : Declaration) (rest : List TokenAt) → Taken b (λ e. decl_at e (seen_in v before)) (DeclG b v) s (t ∷ ts) d rest → Judged b v (before ++ d ∷ []) s rest f → Judged b v before s (t ∷ ts) f
 later_judged b v before s t ts f d rest (front, parts, g, on) (inl (is, begins, all)) = inl (
   is,
-  subst (λ (l : List Placed). Begins (AllG b v before) (tokens_in l)) (sym parts) (rw (tokens_in-append front rest) (begins_more b v before d (tokens_in front) (tokens_in rest) g begins)),
+  subst (λ (l : List TokenAt). Begins (AllG b v before) (tokens_in l)) (sym parts) (rw (tokens_in-append front rest) (begins_more b v before d (tokens_in front) (tokens_in rest) g begins)),
   λ e' w. all_open e' v before s t ts ∙ ok_goes _ _ _ _ (ap (decl_at e' (seen_in v before) s) parts ∙ on e' s rest w (same_self s rest)) (all e' w),
 )
 later_judged b v before s t ts f d rest (front, parts, g, on) (inr (mid, u, after, split, says, local)) = inr (
   front ++ mid,
   u,
   after,
-  parts ∙ ap (λ (l : List Placed). front ++ l) split ∙ sym (append_assoc front mid (u ∷ after)),
+  parts ∙ ap (λ (l : List TokenAt). front ++ l) split ∙ sym (append_assoc front mid (u ∷ after)),
   rw (tokens_in-append front mid) (says_wider (AllG b v (before ++ d ∷ [])) (AllG b v before) (tokens_in front) u f (tokens_in mid) (begins_more b v before d (tokens_in front) (tokens_in mid) g) (goes_more b v before d (tokens_in front) (tokens_in mid ++ u.token ∷ []) g) says),
   λ e' s' after' up.
       let h = first_token (front ++ mid) after' u in
       open_at e' v before s' ((front ++ mid) ++ u ∷ after') h.0 h.1 h.2
-      ∙ rw (append_assoc front mid (u ∷ after')) (ok_goes _ _ _ _ (on e' s' (mid ++ u ∷ after') up.0 (subst (λ (l : List Placed). SameNext s l s' (mid ++ u ∷ after')) (sym split) (next_along s s' mid after after' u))) (local e' s' after' up)),
+      ∙ rw (append_assoc front mid (u ∷ after')) (ok_goes _ _ _ _ (on e' s' (mid ++ u ∷ after') up.0 (subst (λ (l : List TokenAt). SameNext s l s' (mid ++ u ∷ after')) (sym split) (next_along s s' mid after after' u))) (local e' s' after' up)),
 )
 
-decls_judged : (b : Bounds) (v n : ℕ) (before : List Declaration) (s : Stop) (ts : List Placed) (f : Fault) → length ts ≤ n → all_at b v before s ts ≡ Err f → Judged b v before s ts f
+decls_judged : (b : Bounds) (v n : ℕ) (before : List Declaration) (s : Stop) (ts : List TokenAt) (f : Fault) → length ts ≤ n → all_at b v before s ts ≡ Err f → Judged b v before s ts f
 decls_judged b v n before s [] f few e = none_judged b v before s f e
 decls_judged b v zero before s (t ∷ ts) f few e = absurd (omega (arith, few))
 decls_judged b v (suc n) before s (t ∷ ts) f few e = elim (bind_err (decl_at b (seen_in v before) s (t ∷ ts)) (λ y. all_at b v (before ++ y.0 ∷ []) s y.1) f (sym (all_open b v before s t ts) ∙ e)) [
@@ -182,28 +182,28 @@ goes_file : (b : Bounds) (v : ℕ) (k1 ks : List Token) → HeadG v k1 → GoesO
 goes_file b v k1 ks (u, a1, a2, parts, word, (is, number)) (all, rest, (more, same, h)) = ((v, more), rest, (is, ks ++ rest, rw (append_assoc k1 ks rest, parts, word, number) refl, h))
 
 -- the fault of a file, at these bounds and at wider ones
-abbrev FileEnded : Bounds → Stop → List Placed → Fault → Type 0
+abbrev FileEnded : Bounds → Stop → List TokenAt → Fault → Type 0
 FileEnded b s ts f = (f ≡ fault_of s) × Begins (FileG b) (tokens_in ts) × ((e : Bounds) → Wider b e → program_at e s ts ≡ Err f)
 
-abbrev FileAtToken : Bounds → List Placed → Fault → Type 0
-FileAtToken b ts f = (front : List Placed) × (t : Placed) × (after : List Placed) × (ts ≡ front ++ t ∷ after) × Says (FileG b) (tokens_in front) t f
-    × ((e : Bounds) (s : Stop) (after' : List Placed) → Up f b e → program_at e s (front ++ t ∷ after') ≡ Err f)
+abbrev FileAtToken : Bounds → List TokenAt → Fault → Type 0
+FileAtToken b ts f = (front : List TokenAt) × (t : TokenAt) × (after : List TokenAt) × (ts ≡ front ++ t ∷ after) × Says (FileG b) (tokens_in front) t f
+    × ((e : Bounds) (s : Stop) (after' : List TokenAt) → Up f b e → program_at e s (front ++ t ∷ after') ≡ Err f)
 
-pub made_err : (v : ℕ) (r : Result (List Declaration × List Placed) Fault) (f : Fault) → made v r ≡ Err f → r ≡ Err f
+pub made_err : (v : ℕ) (r : Result (List Declaration × List TokenAt) Fault) (f : Fault) → made v r ≡ Err f → r ≡ Err f
 made_err v (Ok x) f e = absurd cc
 made_err v (Err g) f e = cc
 
-made_stays : (v : ℕ) (r : Result (List Declaration × List Placed) Fault) (f : Fault) → r ≡ Err f → made v r ≡ Err f
+made_stays : (v : ℕ) (r : Result (List Declaration × List TokenAt) Fault) (f : Fault) → r ≡ Err f → made v r ≡ Err f
 made_stays v r f e = rw e refl
 
-head_judged : (b : Bounds) (s : Stop) (ts : List Placed) (f : Fault) → Head b s ts ≡ Err f → FileEnded b s ts f ⊎ FileAtToken b ts f
+head_judged : (b : Bounds) (s : Stop) (ts : List TokenAt) (f : Fault) → Head b s ts ≡ Err f → FileEnded b s ts f ⊎ FileAtToken b ts f
 unfolding program_at
 head_judged b s ts f e = elim ((local_head b).err s ts f e) [
   | inl (is, begins, all) ↦ inl (is, begins_head b (tokens_in ts) begins, λ e' w. err_stays _ _ _ (all e' w))
   | inr (front, u, after, parts, says, local) ↦ inr (front, u, after, parts, says_wider HeadG (FileG b) [] u f (tokens_in front) (begins_head b (tokens_in front)) (goes_head b (tokens_in front ++ u.token ∷ [])) says, λ e' s' after' up. err_stays _ _ _ (local e' s' after' up))
 ]
 
-rest_judged : (b : Bounds) (s : Stop) (ts : List Placed) (f : Fault) (v : ℕ) (rest : List Placed) → Taken b Head HeadG s ts v rest → Judged b v [] s rest f → FileEnded b s ts f ⊎ FileAtToken b ts f
+rest_judged : (b : Bounds) (s : Stop) (ts : List TokenAt) (f : Fault) (v : ℕ) (rest : List TokenAt) → Taken b Head HeadG s ts v rest → Judged b v [] s rest f → FileEnded b s ts f ⊎ FileAtToken b ts f
 unfolding program_at
 rest_judged b s ts f v rest (front, parts, g, on) (inl (is, begins, all)) = inl (
   is,
@@ -214,12 +214,12 @@ rest_judged b s ts f v rest (front, parts, g, on) (inr (mid, u, after, split, sa
   front ++ mid,
   u,
   after,
-  parts ∙ ap (λ (l : List Placed). front ++ l) split ∙ sym (append_assoc front mid (u ∷ after)),
+  parts ∙ ap (λ (l : List TokenAt). front ++ l) split ∙ sym (append_assoc front mid (u ∷ after)),
   rw (tokens_in-append front mid) (says_wider (AllG b v []) (FileG b) (tokens_in front) u f (tokens_in mid) (begins_file b v (tokens_in front) (tokens_in mid) g) (goes_file b v (tokens_in front) (tokens_in mid ++ u.token ∷ []) g) says),
-  λ e' s' after' up. rw (append_assoc front mid (u ∷ after')) (ok_goes _ _ _ _ (on e' s' (mid ++ u ∷ after') up.0 (subst (λ (l : List Placed). SameNext s l s' (mid ++ u ∷ after')) (sym split) (next_along s s' mid after after' u))) (made_stays v _ f (local e' s' after' up))),
+  λ e' s' after' up. rw (append_assoc front mid (u ∷ after')) (ok_goes _ _ _ _ (on e' s' (mid ++ u ∷ after') up.0 (subst (λ (l : List TokenAt). SameNext s l s' (mid ++ u ∷ after')) (sym split) (next_along s s' mid after after' u))) (made_stays v _ f (local e' s' after' up))),
 )
 
-file_judged : (b : Bounds) (s : Stop) (ts : List Placed) (f : Fault) → program_at b s ts ≡ Err f → FileEnded b s ts f ⊎ FileAtToken b ts f
+file_judged : (b : Bounds) (s : Stop) (ts : List TokenAt) (f : Fault) → program_at b s ts ≡ Err f → FileEnded b s ts f ⊎ FileAtToken b ts f
 unfolding program_at
 file_judged b s ts f e = elim (bind_err (Head b s ts) (λ x. made x.0 (all_at b x.0 [] s x.1)) f e) [
   | inl one_err ↦ head_judged b s ts f one_err
@@ -304,28 +304,28 @@ sound_wider c e ds w s = record {
 
 -- ---- the fault is right
 
-placed : List Token → List Placed
+placed : List Token → List TokenAt
 placed [] = []
-placed (k ∷ ks) = record { token = k; place = 0 } ∷ placed ks
+placed (k ∷ ks) = record { token = k; offset = 0 } ∷ placed ks
 
 tokens_in-placed : (ks : List Token) → tokens_in (placed ks) ≡ ks
 unfolding placed
 tokens_in-placed [] = refl
 tokens_in-placed (k ∷ ks) = ap (λ (l : List Token). k ∷ l) (tokens_in-placed ks)
 
-with_more : (front : List Placed) (t : Placed) (more : List Token) → tokens_in (front ++ t ∷ placed more) ≡ tokens_in front ++ t.token ∷ more
+with_more : (front : List TokenAt) (t : TokenAt) (more : List Token) → tokens_in (front ++ t ∷ placed more) ≡ tokens_in front ++ t.token ∷ more
 with_more front t more = tokens_in-append front (t ∷ placed more) ∙ ap (λ (l : List Token). tokens_in front ++ t.token ∷ l) (tokens_in-placed more)
 
 -- a file within some bounds is read at wider ones
-read_wider : (c e : Bounds) (f : File) (place : ℕ) (ts : List Placed) → Wider c e → FileIs c f (tokens_in ts) → program_at e (stop.End place) ts ≡ Ok (program_of f.0 f.1)
-read_wider c e f place ts w (spelled, sound) = file_read c.lim c.depth e f.0 f.1 place ts w.lim w.depth spelled (sound_wider c e f.1 w sound)
+read_wider : (c e : Bounds) (f : File) (offset : ℕ) (ts : List TokenAt) → Wider c e → FileIs c f (tokens_in ts) → program_at e (stop.End offset) ts ≡ Ok (program_of f.0 f.1)
+read_wider c e f offset ts w (spelled, sound) = file_read c.lim c.depth e f.0 f.1 offset ts w.lim w.depth spelled (sound_wider c e f.1 w sound)
 
 never_both : (r : Result Program Fault) (p : Program) (f : Fault) → r ≡ Ok p → r ≡ Err f → ⊥
 never_both (Ok q) p f e h = cc
 never_both (Err g) p f e h = cc
 
 -- A file that went on with the token would be read, at its own bounds.
-none_goes_on : (b : Bounds) (front : List Placed) (t : Placed) (f : Fault) → ((e : Bounds) (s : Stop) (after : List Placed) → Up f b e → program_at e s (front ++ t ∷ after) ≡ Err f) → (c : Bounds) → SameNamed f b c → (a : File) (more : List Token) → FileIs c a (tokens_in front ++ t.token ∷ more) → ⊥
+none_goes_on : (b : Bounds) (front : List TokenAt) (t : TokenAt) (f : Fault) → ((e : Bounds) (s : Stop) (after : List TokenAt) → Up f b e → program_at e s (front ++ t ∷ after) ≡ Err f) → (c : Bounds) → SameNamed f b c → (a : File) (more : List Token) → FileIs c a (tokens_in front ++ t.token ∷ more) → ⊥
 none_goes_on b front t f local c same a more is =
     let j = join b c in
     let spelled : FileIs c a (tokens_in (front ++ t ∷ placed more)) = rw (with_more front t more) is in
@@ -340,17 +340,17 @@ begins_in b ks (x, k, rest, h) = (x, k, rest, in_file b x (ks ++ k ∷ rest) h)
 goes_in : (b : Bounds) (ks : List Token) → GoesOn (FileG b) ks → GoesOn IsFile ks
 goes_in b ks (x, rest, h) = (x, rest, in_file b x (ks ++ rest) h)
 
-right_at : (b : Bounds) (front : List Placed) (t : Placed) (f : Fault) → Says (FileG b) (tokens_in front) t f → ((e : Bounds) (s : Stop) (after : List Placed) → Up f b e → program_at e s (front ++ t ∷ after) ≡ Err f) → RightAt b (tokens_in front) t f
+right_at : (b : Bounds) (front : List TokenAt) (t : TokenAt) (f : Fault) → Says (FileG b) (tokens_in front) t f → ((e : Bounds) (s : Stop) (after : List TokenAt) → Up f b e → program_at e s (front ++ t ∷ after) ≡ Err f) → RightAt b (tokens_in front) t f
 right_at b front t (Lex p) says local = says
 right_at b front t (Syntax p) (is, begins) local = (is, begins_in b (tokens_in front) begins, λ a more (c, stands). none_goes_on b front t (Syntax p) local c tt a more stands)
 right_at b front t (Limit m n p) (is, number, goes) local = (is, number, goes_in b (tokens_in front ++ t.token ∷ []) goes, λ a more c same stands. none_goes_on b front t (Limit m n p) local c same a more stands)
 right_at b front t (Duplicate n p) (is, goes) local = (is, goes_in b (tokens_in front ++ t.token ∷ []) goes, λ a more c same stands. none_goes_on b front t (Duplicate n p) local c same a more stands)
 
-right_at_stop : (b : Bounds) (s : Stop) (ts : List Placed) (f : Fault) → Begins (FileG b) (tokens_in ts) → ((e : Bounds) → Wider b e → program_at e s ts ≡ Err f) → RightAtStop s (tokens_in ts)
+right_at_stop : (b : Bounds) (s : Stop) (ts : List TokenAt) (f : Fault) → Begins (FileG b) (tokens_in ts) → ((e : Bounds) → Wider b e → program_at e s ts ≡ Err f) → RightAtStop s (tokens_in ts)
 right_at_stop b (stop.Lex p) ts f begins all = begins_in b (tokens_in ts) begins
 right_at_stop b (stop.End p) ts f begins all = (begins_in b (tokens_in ts) begins, λ a (c, stands). never_both (program_at (join b c) (stop.End p) ts) (program_of a.0 a.1) f (read_wider c (join b c) a p ts (join_right b c) stands) (all (join b c) (join_left b c)))
 
-is_right : (b : Bounds) (s : Stop) (ts : List Placed) (f : Fault) → program_at b s ts ≡ Err f → IsRight b s ts f
+is_right : (b : Bounds) (s : Stop) (ts : List TokenAt) (f : Fault) → program_at b s ts ≡ Err f → IsRight b s ts f
 is_right b s ts f e = elim (file_judged b s ts f e) [
   | inl (is, begins, all) ↦ inl (is, right_at_stop b s ts f begins all)
   | inr (front, t, after, parts, says, local) ↦ inr (front, t, after, parts, right_at b front t f says local)

@@ -15,11 +15,12 @@ use Rattle.value_core.specs.declared.strings.Mode.{Mode}
 use Rattle.value_core.specs.declared.strings.Mode.TheVariants.{Plain}
 use Rattle.value_core.specs.declared.strings.Step.{Step}
 use Rattle.value_core.specs.declared.strings.Step.TheVariants.{Ends, Adds, Turns, Wrong}
-use Rattle.value_core.specs.declared.lexing.Placed.{Placed}
+use Rattle.value_core.specs.declared.lexing.TokenAt.{TokenAt}
 use Rattle.value_core.specs.declared.lexing.Tokens.{Tokens}
 use Rattle.value_core.specs.Texts.{no_nul}
 use Rattle.value_core.specs.Strings.{step, with_byte, later, go_on, body_at}
-use Rattle.value_core.specs.Tokens.{is_mark, is_letter, is_word_byte, gap, number_of, number_token, word_token, sized, string_at, token_at, found_at, next_at}
+use Rattle.value_core.specs.Names.{is_letter, is_word_byte}
+use Rattle.value_core.specs.Tokens.{is_mark, gap, number_of, number_token, word_token, sized, string_at, token_at, found_at, next_at}
 use Rattle.value_core.specs.Lexing.{lexed_next, lexed_from, lexed}
 use Rattle.value_core.specs.Literals.{tokens_in}
 use Rattle.value_core.proofs.Scans.{body_no_nul}
@@ -150,31 +151,31 @@ token_fine (b ∷ bs) =
 -- ---- all tokens
 
 abbrev FineNext : ℕ → ℕ → Result Next ℕ → Type 0
-FineNext from size (Ok (Found token place end)) = IsGood token × (from + bytes_of token ≤ end) × (end ≤ size)
+FineNext from size (Ok (Found token offset end)) = IsGood token × (from + bytes_of token ≤ end) × (end ≤ size)
 FineNext from size (Ok End) = Unit {0}
-FineNext from size (Err place) = Unit {0}
+FineNext from size (Err offset) = Unit {0}
 
-found_fine : (from place size : ℕ) (bs : List ℕ) (o : Option (Token × ℕ)) → from ≤ place → length bs ≡ size - place → Fine (length bs) o → FineNext from size (found_at place bs o)
-found_fine from place size [] o later e h = tt
-found_fine from place size (b ∷ bs) None later e h = tt
-found_fine from place size (b ∷ bs) (Some x) later e (good, some, few) =
-    let same : length (b ∷ bs) ≡ size - place = e in
+found_fine : (from offset size : ℕ) (bs : List ℕ) (o : Option (Token × ℕ)) → from ≤ offset → length bs ≡ size - offset → Fine (length bs) o → FineNext from size (found_at offset bs o)
+found_fine from offset size [] o later e h = tt
+found_fine from offset size (b ∷ bs) None later e h = tt
+found_fine from offset size (b ∷ bs) (Some x) later e (good, some, few) =
+    let same : length (b ∷ bs) ≡ size - offset = e in
     let all : 0 < length (b ∷ bs) = omega arith in
     (good, omega (arith, some, later), omega (arith, few, same, all))
 
 next_fine : (bytes : List ℕ) (from : ℕ) → FineNext from (length bytes) (next_at bytes from)
 next_fine bytes from =
-    let place : ℕ = from + gap 0 (drop from bytes) in
-    found_fine from place (length bytes) (drop place bytes) (token_at (drop place bytes)) (omega arith) (length-drop place bytes) (token_fine (drop place bytes))
+    let offset : ℕ = from + gap 0 (drop from bytes) in
+    found_fine from offset (length bytes) (drop offset bytes) (token_at (drop offset bytes)) (omega arith) (length-drop offset bytes) (token_fine (drop offset bytes))
 
--- all are good, and behind a place they take no more bytes than are left
-abbrev pub AllFine : ℕ → ℕ → List Placed → Type 0
+-- all are good, and behind an offset they take no more bytes than are left
+abbrev pub AllFine : ℕ → ℕ → List TokenAt → Type 0
 AllFine from size ts = AllByRecursion IsGood (tokens_in ts) × (bytes_in (tokens_in ts) ≤ size - from)
 
 more_fine : (from size : ℕ) (r : Result Next ℕ) (rest : ℕ → Tokens) → FineNext from size r → ((at : ℕ) → AllFine at size (rest at).tokens) → AllFine from size (lexed_next size r rest).tokens
-more_fine from size (Ok (Found token place end)) rest (good, some, few) more = let h = more end in let fits = h.1 in ((good, h.0), omega (arith, some, few, fits))
+more_fine from size (Ok (Found token offset end)) rest (good, some, few) more = let h = more end in let fits = h.1 in ((good, h.0), omega (arith, some, few, fits))
 more_fine from size (Ok End) rest h more = (tt, omega arith)
-more_fine from size (Err place) rest h more = (tt, omega arith)
+more_fine from size (Err offset) rest h more = (tt, omega arith)
 
 from_fine : (n : ℕ) (bytes : List ℕ) (from : ℕ) → AllFine from (length bytes) (lexed_from n bytes from).tokens
 from_fine zero bytes from = (tt, omega arith)

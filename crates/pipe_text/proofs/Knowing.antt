@@ -6,7 +6,7 @@ use Rattle.std.specs.Str.{bytes_eq}
 use Rattle.std.proofs.lemmas.List.{append-nil, nil_from_length}
 use Rattle.std.proofs.lemmas.List.Elements.{filter_map-append}
 use Rattle.std.proofs.lemmas.List.Folds.{list_any-append}
-use Rattle.value_core.specs.declared.lexing.Placed.{Placed}
+use Rattle.value_core.specs.declared.lexing.TokenAt.{TokenAt}
 use Rattle.value_core.specs.declared.lexing.Stop.{Stop}
 use Rattle.value_core.specs.declared.lexing.Stop.TheVariants as stop
 use Rattle.op_keys.specs.declared.declarations.ClientDecl.{ClientDecl}
@@ -251,14 +251,14 @@ known_more v before it new d k program names terms fits = record {
 
 -- ---- the loop
 
-pub all_step : (b : Bounds) (v : ℕ) (before : List Declaration) (d : Declaration) (s : Stop) (ts rest : List Placed) → decl_at b (seen_in v before) s ts ≡ Ok (d, rest) → all_at b v (before ++ d ∷ []) s rest ≡ all_at b v before s ts
+pub all_step : (b : Bounds) (v : ℕ) (before : List Declaration) (d : Declaration) (s : Stop) (ts rest : List TokenAt) → decl_at b (seen_in v before) s ts ≡ Ok (d, rest) → all_at b v (before ++ d ∷ []) s rest ≡ all_at b v before s ts
 unfolding all_at decls_at
 all_step b v before d s [] rest e = let less = shorter b (seen_in v before) d s [] rest e in absurd (omega (arith, less))
 all_step b v before d s (t ∷ ts) rest e =
     let less = shorter b (seen_in v before) d s (t ∷ ts) rest e in
     rw e (enough b v (length rest) (length ts) (before ++ d ∷ []) s rest (omega arith) (omega (arith, less)))
 
-pub all_err : (b : Bounds) (v : ℕ) (before : List Declaration) (s : Stop) (ts : List Placed) (e : Unread) → false ≡ (length ts == 0) → Fails e (decl_at b (seen_in v before) s ts) → Fails e (made v (all_at b v before s ts))
+pub all_err : (b : Bounds) (v : ℕ) (before : List Declaration) (s : Stop) (ts : List TokenAt) (e : Unread) → false ≡ (length ts == 0) → Fails e (decl_at b (seen_in v before) s ts) → Fails e (made v (all_at b v before s ts))
 unfolding all_at decls_at
 all_err b v before s ts NoMemory some h = tt
 all_err b v before s [] (At f) some h = absurd cc
@@ -267,16 +267,16 @@ all_err b v before s (t ∷ ts) (At f) some h = rw h refl
 no_tokens : (n : ℕ) → true ≡ (n == 0) → n ≡ 0
 no_tokens n e = is_equal n 0 (sym e)
 
-nothing_left : (b : Bounds) (v : ℕ) (before : List Declaration) (place : ℕ) → all_at b v before (stop.Lex place) [] ≡ Err (Lex place)
+nothing_left : (b : Bounds) (v : ℕ) (before : List Declaration) (offset : ℕ) → all_at b v before (stop.Lex offset) [] ≡ Err (Lex offset)
 unfolding all_at decls_at
-nothing_left b v before place = refl
+nothing_left b v before offset = refl
 
-file_ends : (b : Bounds) (v : ℕ) (before : List Declaration) (place : ℕ) → all_at b v before (stop.End place) [] ≡ Ok (before, [])
+file_ends : (b : Bounds) (v : ℕ) (before : List Declaration) (offset : ℕ) → all_at b v before (stop.End offset) [] ≡ Ok (before, [])
 unfolding all_at decls_at
-file_ends b v before place = refl
+file_ends b v before offset = refl
 
-pub all_lex : (b : Bounds) (v : ℕ) (before : List Declaration) (place : ℕ) (ts : List Placed) → true ≡ (length ts == 0) → made v (all_at b v before (stop.Lex place) ts) ≡ Err (Lex place)
-all_lex b v before place ts none = rw (nil_from_length ts (no_tokens (length ts) none), nothing_left b v before place) refl
+pub all_lex : (b : Bounds) (v : ℕ) (before : List Declaration) (offset : ℕ) (ts : List TokenAt) → true ≡ (length ts == 0) → made v (all_at b v before (stop.Lex offset) ts) ≡ Err (Lex offset)
+all_lex b v before offset ts none = rw (nil_from_length ts (no_tokens (length ts) none), nothing_left b v before offset) refl
 
-pub all_end : (b : Bounds) (v : ℕ) (before : List Declaration) (place : ℕ) (ts : List Placed) → true ≡ (length ts == 0) → made v (all_at b v before (stop.End place) ts) ≡ Ok (program_of v before)
-all_end b v before place ts none = rw (nil_from_length ts (no_tokens (length ts) none), file_ends b v before place) refl
+pub all_end : (b : Bounds) (v : ℕ) (before : List Declaration) (offset : ℕ) (ts : List TokenAt) → true ≡ (length ts == 0) → made v (all_at b v before (stop.End offset) ts) ≡ Ok (program_of v before)
+all_end b v before offset ts none = rw (nil_from_length ts (no_tokens (length ts) none), file_ends b v before offset) refl

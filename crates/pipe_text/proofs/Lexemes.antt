@@ -17,7 +17,8 @@ use Rattle.value_core.specs.Pieces.{Piece, plain, short, hex, spelled, meant, is
 use Rattle.value_core.specs.Printed.{escape, escaped, hex_escape, quoted}
 use Rattle.value_core.specs.Strings.{is_hex, hex_value, is_control, body_at}
 use Rattle.value_core.specs.Texts.{no_nul}
-use Rattle.value_core.specs.Tokens.{is_mark, is_letter, is_word_byte, number_of, number_token, word_token, sized, string_at, token_at}
+use Rattle.value_core.specs.Names.{is_letter, is_word_byte}
+use Rattle.value_core.specs.Tokens.{is_mark, number_of, number_token, word_token, sized, string_at, token_at}
 use Rattle.value_core.proofs.Bodies.{body_all}
 use Rattle.term_core.specs.Limits.{is_name, is_text}
 use Rattle.pipe_text.specs.Printing.{token_text}

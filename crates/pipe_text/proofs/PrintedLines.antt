@@ -12,7 +12,8 @@ use Rattle.value_core.specs.declared.token.Token.{Token}
 use Rattle.value_core.specs.declared.token.Token.TheVariants.{Name, Number, Words, Mark, LongName, LongText}
 use Rattle.value_core.specs.Lexing.{lexed_next, lexed_from, lexed}
 use Rattle.value_core.specs.Literals.{tokens_in}
-use Rattle.value_core.specs.Tokens.{is_blank, is_mark, is_word_byte, gap, token_at, found_at, next_at}
+use Rattle.value_core.specs.Names.{is_word_byte}
+use Rattle.value_core.specs.Tokens.{is_blank, is_mark, gap, token_at, found_at, next_at}
 use Rattle.pipe_text.specs.Printing.{token_text, opens, closes, space_before, spaced, line_text}
 use Rattle.pipe_text.proofs.GoodTokens.{IsGood}
 use Rattle.pipe_text.proofs.TermTokens.{IsShort}
@@ -37,17 +38,17 @@ token_gap : (l : List ℕ) (t : Token × ℕ) → token_at l ≡ Some t → gap 
 token_gap [] t e = absurd cc
 token_gap (b ∷ bs) t e = let seen = seen_byte b (first_byte (is_mark b) (is_word_byte b) (b == 34) _ _ _ t e) in no_gap (is_blank b) (b == 35) _ _ _ seen.0 seen.1
 
-found_is : (place : ℕ) (l : List ℕ) (t : Token × ℕ) → token_at l ≡ Some t → found_at place l (token_at l) ≡ Ok (Found t.0 place (place + t.1))
-found_is place [] t e = absurd cc
-found_is place (b ∷ bs) t e = ap (found_at place (b ∷ bs)) e
+found_is : (offset : ℕ) (l : List ℕ) (t : Token × ℕ) → token_at l ≡ Some t → found_at offset l (token_at l) ≡ Ok (Found t.0 offset (offset + t.1))
+found_is offset [] t e = absurd cc
+found_is offset (b ∷ bs) t e = ap (found_at offset (b ∷ bs)) e
 
--- what is found at a place
+-- what is found at an offset
 found_from : List ℕ → ℕ → Result Next ℕ
-found_from bytes place = found_at place (drop place bytes) (token_at (drop place bytes))
+found_from bytes offset = found_at offset (drop offset bytes) (token_at (drop offset bytes))
 
-next_is : (bytes : List ℕ) (from place : ℕ) → from + gap 0 (drop from bytes) ≡ place → next_at bytes from ≡ found_from bytes place
+next_is : (bytes : List ℕ) (from offset : ℕ) → from + gap 0 (drop from bytes) ≡ offset → next_at bytes from ≡ found_from bytes offset
 unfolding found_from
-next_is bytes from place e = ap (λ (p : ℕ). found_at p (drop p bytes) (token_at (drop p bytes))) e
+next_is bytes from offset e = ap (λ (p : ℕ). found_at p (drop p bytes) (token_at (drop p bytes))) e
 
 gap_is : (front l : List ℕ) (n : ℕ) → gap 0 l ≡ n → length front + gap 0 (drop (length front) (front ++ l)) ≡ length front + n
 gap_is front l n e = ap (λ (m : ℕ). length front + m) (ap (gap 0) (drop_at front l (length front) refl) ∙ e)
@@ -71,10 +72,10 @@ blank_gap b l e = rw e refl
 next_blank : (front : List ℕ) (b : ℕ) (l : List ℕ) → is_blank b ≡ true → next_at (front ++ b ∷ l) (length front) ≡ next_at ((front ++ b ∷ []) ++ l) (length (front ++ b ∷ []))
 next_blank front b l e =
     let one_more : length (front ++ b ∷ []) ≡ length front + 1 = length-append front (b ∷ []) in
-    let place : ℕ = length (front ++ b ∷ []) + gap 0 l in
+    let offset : ℕ = length (front ++ b ∷ []) + gap 0 l in
     let same : length front + (1 + gap 0 l) ≡ length (front ++ b ∷ []) + gap 0 l = omega (arith, one_more) in
-    next_is (front ++ b ∷ l) (length front) place (gap_is front (b ∷ l) (1 + gap 0 l) (blank_gap b l e) ∙ same) ∙ ap (λ (x : List ℕ). found_from x place) (sym (append_assoc front (b ∷ []) l))
-    ∙ sym (next_is ((front ++ b ∷ []) ++ l) (length (front ++ b ∷ [])) place (gap_is (front ++ b ∷ []) l (gap 0 l) refl))
+    next_is (front ++ b ∷ l) (length front) offset (gap_is front (b ∷ l) (1 + gap 0 l) (blank_gap b l e) ∙ same) ∙ ap (λ (x : List ℕ). found_from x offset) (sym (append_assoc front (b ∷ []) l))
+    ∙ sym (next_is ((front ++ b ∷ []) ++ l) (length (front ++ b ∷ [])) offset (gap_is (front ++ b ∷ []) l (gap 0 l) refl))
 
 -- ---- all tokens
 
@@ -97,7 +98,7 @@ raw_end front (suc n) h = gives_next front [] n (Ok End) [] (next_end front) (re
 lex_end : Lexes [] []
 lex_end = record { lexes = raw_end }
 
--- the same bytes and place, put otherwise
+-- the same bytes and offset, put otherwise
 gives_moved : (bytes other : List ℕ) (from to n : ℕ) (ks : List Token) → bytes ≡ other → from ≡ to → Gives (length bytes) ks (lexed_from n bytes from) → Gives (length other) ks (lexed_from n other to)
 gives_moved bytes other from to n ks e h g = subst (λ (m : ℕ). Gives (length other) ks (lexed_from n other m)) h (subst (λ (b : List ℕ). Gives (length b) ks (lexed_from n b from)) e g)
 

@@ -186,14 +186,14 @@ declares_within v d ks (is_op_decl n w p m e c ws k kp km ke kc kr name x1 x2 x3
     let r1 = good_right kp (km ++ (ke ++ (kc ++ kr))) all in
     let r2 = good_right km (ke ++ (kc ++ kr)) r1 in
     let r3 = good_right ke (kc ++ kr) r2 in
-    let place = where_within p kp x1 (good_left kp (km ++ (ke ++ (kc ++ kr))) all) in
+    let placement = where_within p kp x1 (good_left kp (km ++ (ke ++ (kc ++ kr))) all) in
     let run = run_within ws kr x5 (good_right kc kr r3) in
     record {
       name = name_good n k name (good_first k _ named);
-      pool = place.pool;
-      client = place.client;
-      full = place.full;
-      cached = place.cached;
+      pool = placement.pool;
+      client = placement.client;
+      full = placement.full;
+      cached = placement.cached;
       hint = manner_within m km x2 (good_left km (ke ++ (kc ++ kr)) r1);
       expiry = keeping_within v w e ke x3;
       some_words = run.0;

@@ -14,7 +14,7 @@ use Rattle.pipe_text.specs.declared.words.BodyWord.{BodyWord}
 use Rattle.pipe_text.specs.declared.words.BodyWord.TheVariants as word
 use Rattle.pipe_text.specs.declared.fault.Fault.{Fault}
 use Rattle.value_core.specs.declared.lexing.Stop.{Stop}
-use Rattle.value_core.specs.declared.lexing.Placed.{Placed}
+use Rattle.value_core.specs.declared.lexing.TokenAt.{TokenAt}
 use Rattle.pipe_text.specs.Words.{body_letters, body_word, fun_letters, fun_word, kind_letters, kind_word}
 use Rattle.value_core.specs.Literals.{tokens_in, is_mark_of}
 use Rattle.pipe_text.specs.Readers.{◌>>=◌, Reader, give, seq, peek, mark_at, word_at}
@@ -91,7 +91,7 @@ local_part l d n k x =
     (local_peek b (is_mark_of 40) (λ e. seq (Whole (less k e)) (λ a. give (Some a))) (λ e. give None) (Dressed (λ a. Some a) (TermG l d)) (Nothing None) (local_as b (λ e. Whole (less k e)) (λ a. Some a) (TermG l d) (at_less l d n k x)) (local_give b None))
     (either _ _ (PartG l d) (part_some l d) (part_none l d))
 
-part_counts : (l : Limits) (d n : ℕ) (s : Stop) (ts rest : List Placed) (a : Counted) → part_at (term_at l d) n s ts ≡ Ok (Some a, rest) → (0 < a.1) × (a.1 ≤ n)
+part_counts : (l : Limits) (d n : ℕ) (s : Stop) (ts rest : List TokenAt) (a : Counted) → part_at (term_at l d) n s ts ≡ Ok (Some a, rest) → (0 < a.1) × (a.1 ≤ n)
 part_counts l d n s ts rest a e =
     let f = (finds_part l d n (term_at l d) (λ left. finds_term l d left)).found s ts (Some a) rest e in
     let h : 0 < a.1 = (begun l d a.1 (one a.0) (tokens_in f.0) f.2.1).0 in
@@ -100,15 +100,15 @@ part_counts l d n s ts rest a e =
 abbrev PartsStep : (ℕ → Reader Counted) → ℕ → ℕ → Reader (List Term × ℕ)
 PartsStep r m n = seq (part_at r n) (λ o. with_part o (λ used. parts_at r (m - 1) (n - used)))
 
-no_step : (r : ℕ → Reader Counted) (n : ℕ) (s : Stop) (o : Result (Option Counted × List Placed) Fault) → ((a : Counted) (rest : List Placed) → o ≡ Ok (Some a, rest) → ⊥) → (o >>= λ x. with_part x.0 (λ used. give ([], 0)) s x.1) ≡ (o >>= λ x. with_part x.0 (λ used. parts_at r (0 - 1) (n - used)) s x.1)
+no_step : (r : ℕ → Reader Counted) (n : ℕ) (s : Stop) (o : Result (Option Counted × List TokenAt) Fault) → ((a : Counted) (rest : List TokenAt) → o ≡ Ok (Some a, rest) → ⊥) → (o >>= λ x. with_part x.0 (λ used. give ([], 0)) s x.1) ≡ (o >>= λ x. with_part x.0 (λ used. parts_at r (0 - 1) (n - used)) s x.1)
 no_step r n s (Ok (None, rest)) never = refl
 no_step r n s (Ok (Some a, rest)) never = absurd (never a rest refl)
 no_step r n s (Err f) never = refl
 
-no_room : (l : Limits) (d n : ℕ) (s : Stop) (ts : List Placed) → n ≤ 0 → (a : Counted) (rest : List Placed) → part_at (term_at l d) n s ts ≡ Ok (Some a, rest) → ⊥
+no_room : (l : Limits) (d n : ℕ) (s : Stop) (ts : List TokenAt) → n ≤ 0 → (a : Counted) (rest : List TokenAt) → part_at (term_at l d) n s ts ≡ Ok (Some a, rest) → ⊥
 no_room l d n s ts h a rest e = let c = part_counts l d n s ts rest a e in let some = c.0 in let few = c.1 in omega (arith, some, few, h)
 
-parts_step : (l : Limits) (d m n : ℕ) → n ≤ m → (s : Stop) (ts : List Placed) → parts_at (term_at l d) m n s ts ≡ PartsStep (term_at l d) m n s ts
+parts_step : (l : Limits) (d m n : ℕ) → n ≤ m → (s : Stop) (ts : List TokenAt) → parts_at (term_at l d) m n s ts ≡ PartsStep (term_at l d) m n s ts
 unfolding parts_at
 parts_step l d zero n h s ts = no_step (term_at l d) n s (part_at (term_at l d) n s ts) (no_room l d n s ts h)
 parts_step l d (suc m) n h s ts = let one_m : suc m - 1 ≡ m = omega arith in rw one_m refl
@@ -268,14 +268,14 @@ Rest e = seq (word_at body_word) (λ w. seq (BodyAt w (inside e)) (λ x. seq (ma
 abbrev Step : Bounds → Reader Counted
 Step e = seq (open_at e.depth e.terms) (λ u. Rest e)
 
-shut : (e : Bounds) (s : Stop) (o : Result (Unit {0} × List Placed) Fault) → ((u : Unit {0}) (rest : List Placed) → o ≡ Ok (u, rest) → ⊥) → (o >>= λ x. give (term.All [], 1) s x.1) ≡ (o >>= λ x. Rest e s x.1)
+shut : (e : Bounds) (s : Stop) (o : Result (Unit {0} × List TokenAt) Fault) → ((u : Unit {0}) (rest : List TokenAt) → o ≡ Ok (u, rest) → ⊥) → (o >>= λ x. give (term.All [], 1) s x.1) ≡ (o >>= λ x. Rest e s x.1)
 shut e s (Ok x) never = absurd (never x.0 x.1 refl)
 shut e s (Err f) never = refl
 
-never_open : (n : ℕ) (s : Stop) (ts : List Placed) (u : Unit {0}) (rest : List Placed) → open_at 0 n s ts ≡ Ok (u, rest) → ⊥
+never_open : (n : ℕ) (s : Stop) (ts : List TokenAt) (u : Unit {0}) (rest : List TokenAt) → open_at 0 n s ts ≡ Ok (u, rest) → ⊥
 never_open n s ts u rest e = let f = (finds_open 0 n).found s ts u rest e in let deep : 0 < 0 = f.2.1 in omega (arith, deep)
 
-term_step : (l : Bounds) (d n : ℕ) (s : Stop) (ts : List Placed) → term_at l.lim d n s ts ≡ Step (Inner l d n) s ts
+term_step : (l : Bounds) (d n : ℕ) (s : Stop) (ts : List TokenAt) → term_at l.lim d n s ts ≡ Step (Inner l d n) s ts
 unfolding term_at
 term_step l zero n s ts = shut (Inner l 0 n) s (open_at 0 n s ts) (never_open n s ts)
 term_step l (suc d) n s ts = let one_d : suc d - 1 ≡ d = omega arith in rw one_d refl

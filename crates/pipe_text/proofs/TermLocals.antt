@@ -9,7 +9,7 @@ use Rattle.value_core.specs.declared.value.Value.TheVariants as value
 use Rattle.pipe_text.specs.declared.fault.Fault.{Fault}
 use Rattle.pipe_text.specs.declared.fault.LimitName.TheVariants as limit
 use Rattle.value_core.specs.declared.lexing.Stop.{Stop}
-use Rattle.value_core.specs.declared.lexing.Placed.{Placed}
+use Rattle.value_core.specs.declared.lexing.TokenAt.{TokenAt}
 use Rattle.value_core.specs.Literals.{is_mark_of}
 use Rattle.pipe_text.specs.Readers.{◌>>=◌, Reader, give, seq, peek, mark_choice, mark_at, chosen, word_choice, word_at, keyword_at, only, is_string}
 use Rattle.pipe_text.specs.Grammar.{Limits, TextIs, is_within, Texts, Items, list_of, IsLiteral, is_text, is_number, is_unit, is_list}
@@ -214,7 +214,7 @@ local_command_word b j = local_same b (λ e. peek is_string (seq (room_at e.lim 
 
 -- with no room there is no text
 abbrev Shuts : (ℕ → Reader (Option (List ℕ))) → Type 0
-Shuts r = (s : Stop) (ts : List Placed) (t : List ℕ) (rest : List Placed) → r 0 s ts ≡ Ok (Some t, rest) → ⊥
+Shuts r = (s : Stop) (ts : List TokenAt) (t : List ℕ) (rest : List TokenAt) → r 0 s ts ≡ Ok (Some t, rest) → ⊥
 
 shuts : (before behind : List Token) (lim : Limits) (r : ℕ → Reader (Option (List ℕ))) → ((n : ℕ) → Finds (r n) (TextLang before behind lim n)) → Shuts r
 shuts before behind lim r x s ts t rest e = let f = (x 0).found s ts (Some t) rest e in let none : 0 < 0 = f.2.3 in omega (arith, none)
@@ -223,12 +223,12 @@ shuts before behind lim r x s ts t rest e = let f = (x 0).found s ts (Some t) re
 abbrev TextsStep : (ℕ → Reader (Option (List ℕ))) → ℕ → Reader (List (List ℕ))
 TextsStep r n = seq (r n) (λ o. with_text_read o (texts_at r (n - 1)))
 
-step_none : (r : ℕ → Reader (Option (List ℕ))) (s : Stop) (o : Result (Option (List ℕ) × List Placed) Fault) → ((t : List ℕ) (rest : List Placed) → o ≡ Ok (Some t, rest) → ⊥) → (o >>= λ x. with_text_read x.0 (give []) s x.1) ≡ (o >>= λ x. with_text_read x.0 (texts_at r (0 - 1)) s x.1)
+step_none : (r : ℕ → Reader (Option (List ℕ))) (s : Stop) (o : Result (Option (List ℕ) × List TokenAt) Fault) → ((t : List ℕ) (rest : List TokenAt) → o ≡ Ok (Some t, rest) → ⊥) → (o >>= λ x. with_text_read x.0 (give []) s x.1) ≡ (o >>= λ x. with_text_read x.0 (texts_at r (0 - 1)) s x.1)
 step_none r s (Ok (None, rest)) never = refl
 step_none r s (Ok (Some t, rest)) never = absurd (never t rest refl)
 step_none r s (Err f) never = refl
 
-texts_step : (r : ℕ → Reader (Option (List ℕ))) → Shuts r → (n : ℕ) (s : Stop) (ts : List Placed) → texts_at r n s ts ≡ TextsStep r n s ts
+texts_step : (r : ℕ → Reader (Option (List ℕ))) → Shuts r → (n : ℕ) (s : Stop) (ts : List TokenAt) → texts_at r n s ts ≡ TextsStep r n s ts
 unfolding texts_at
 texts_step r shut zero s ts = step_none r s (r 0 s ts) (shut s ts)
 texts_step r shut (suc n) s ts = let one_n : suc n - 1 ≡ n = omega arith in rw one_n refl

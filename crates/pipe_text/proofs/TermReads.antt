@@ -11,7 +11,7 @@ use Rattle.term_core.specs.declared.program.Term.{Term}
 use Rattle.term_core.specs.declared.program.Term.TheVariants as term
 use Rattle.pipe_text.specs.declared.words.BodyWord.{BodyWord}
 use Rattle.pipe_text.specs.declared.words.BodyWord.TheVariants as word
-use Rattle.value_core.specs.declared.lexing.Placed.{Placed}
+use Rattle.value_core.specs.declared.lexing.TokenAt.{TokenAt}
 use Rattle.value_core.specs.declared.lexing.Stop.{Stop}
 use Rattle.pipe_text.specs.declared.fault.LimitName.{LimitName}
 use Rattle.pipe_text.specs.declared.fault.LimitName.TheVariants as limit
@@ -114,10 +114,10 @@ opens : (d n : ℕ) → 0 < n → open_choice (suc d) n (Mark 40) ≡ Ok (give t
 opens d n some = rw (some_is n some, some_is (suc d) (omega arith)) refl
 
 -- what follows begins with the closing bracket
-abbrev pub Closes : List Placed → Type 0
-Closes rest = (t : Placed) × (more : List Placed) × (rest ≡ t ∷ more) × (t.token ≡ Mark 41)
+abbrev pub Closes : List TokenAt → Type 0
+Closes rest = (t : TokenAt) × (more : List TokenAt) × (rest ≡ t ∷ more) × (t.token ≡ Mark 41)
 
-mark_closes : (front rest : List Placed) → tokens_in front ≡ Mark 41 ∷ [] → Any rest → Closes (front ++ rest)
+mark_closes : (front rest : List TokenAt) → tokens_in front ≡ Mark 41 ∷ [] → Any rest → Closes (front ++ rest)
 mark_closes [] rest e p = absurd cc
 mark_closes (t ∷ front) rest e p = (t, front ++ rest, refl, (cons_is t.token (Mark 41) (tokens_in front) [] e).0)
 
@@ -142,17 +142,17 @@ reads_room lim wide what m n (Mark t) u some e = absurd e
 reads_room lim wide what m n LongName u some e = absurd e
 
 -- what reads one text of a list or a command: the end of them, or one more where there is room
-abbrev Stops : (List Placed → Type 0) → (ℕ → Reader (Option (List ℕ))) → List Token → Type 0
+abbrev Stops : (List TokenAt → Type 0) → (ℕ → Reader (Option (List ℕ))) → List Token → Type 0
 Stops P r behind = (n : ℕ) → ReadsIf P (r n) None behind
 
 abbrev GoesOnWith : Limits → (ℕ → Reader (Option (List ℕ))) → List Token → Type 0
 GoesOnWith lim r before = (n : ℕ) (t : List ℕ) (k : Token) → 0 < n → TextIs lim t k → Takes (r n) (Some t) (before ++ k ∷ [])
 
-reads_none_more : (P : List Placed → Type 0) (r : Reader (Option (List ℕ))) (q : Reader (List (List ℕ))) (behind : List Token) → ReadsIf P r None behind → ReadsIf P (seq r (λ o. with_text_read o q)) [] behind
+reads_none_more : (P : List TokenAt → Type 0) (r : Reader (Option (List ℕ))) (q : Reader (List (List ℕ))) (behind : List Token) → ReadsIf P r None behind → ReadsIf P (seq r (λ o. with_text_read o q)) [] behind
 reads_none_more P r q behind x = subst (λ (l : List Token). ReadsIf P (seq r (λ o. with_text_read o q)) [] l) (append-nil behind)
     (reads_seq P P r (λ o. with_text_read o q) None [] behind [] (λ front rest e p. rw (nil_of front e) p) x (reads_give P []))
 
-pub reads_texts : (P : List Placed → Type 0) (before behind : List Token) (lim : Limits) (r : ℕ → Reader (Option (List ℕ))) → Stops P r behind → GoesOnWith lim r before
+pub reads_texts : (P : List TokenAt → Type 0) (before behind : List Token) (lim : Limits) (r : ℕ → Reader (Option (List ℕ))) → Stops P r behind → GoesOnWith lim r before
     → (ts : List (List ℕ)) (n : ℕ) (ks : List Token) → length ts ≤ n → Texts before behind lim ts ks → ReadsIf P (texts_at r n) ts ks
 unfolding texts_at
 reads_texts P before behind lim r stops goes [] zero ks h e = rw e (reads_none_more P (r 0) (give []) behind (stops 0))
@@ -193,10 +193,10 @@ reads_items lim wide (t ∷ ts) ks u (k, more, parts, is, few, rest) =
     (reads_as Any (texts_at (item_at wide) wide.more_items) (λ x. t ∷ x) ts more (reads_texts Any (Mark 44 ∷ []) (Mark 93 ∷ []) lim (item_at wide) (reads_end wide) (reads_item lim wide u) ts wide.more_items more fits rest))))
 
 -- no string comes next
-abbrev pub NoString : List Placed → Type 0
+abbrev pub NoString : List TokenAt → Type 0
 NoString rest = next_passes is_string rest ≡ false
 
-raw_no_word : (wide : Limits) (n : ℕ) (s : Stop) (front rest : List Placed) → tokens_in front ≡ [] → NoString rest → command_word_at wide n s (front ++ rest) ≡ Ok (None, rest)
+raw_no_word : (wide : Limits) (n : ℕ) (s : Stop) (front rest : List TokenAt) → tokens_in front ≡ [] → NoString rest → command_word_at wide n s (front ++ rest) ≡ Ok (None, rest)
 unfolding command_word_at
 raw_no_word wide n s [] rest e p = rw p refl
 raw_no_word wide n s (t ∷ front) rest e p = absurd cc
@@ -270,7 +270,7 @@ begun lim d m w ks (is_output c i j z k a b ka kb h x y) = (omega arith, _, refl
 begun lim d m w ks (no_more c) = tt
 begun lim d m w ks (one_more c i j a more ka k x y) = tt
 
-raw_none : (r : ℕ → Reader Counted) (n : ℕ) (s : Stop) (front rest : List Placed) → tokens_in front ≡ [] → Closes rest → part_at r n s (front ++ rest) ≡ Ok (None, rest)
+raw_none : (r : ℕ → Reader Counted) (n : ℕ) (s : Stop) (front rest : List TokenAt) → tokens_in front ≡ [] → Closes rest → part_at r n s (front ++ rest) ≡ Ok (None, rest)
 unfolding part_at
 raw_none r n s [] rest e (t, more, is, mark) = let no_open : is_mark_of 40 t.token ≡ false = rw mark refl in rw (is, no_open) refl
 raw_none r n s (x ∷ front) rest e c = absurd cc

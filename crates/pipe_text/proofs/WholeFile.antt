@@ -7,7 +7,7 @@ use Rattle.value_core.specs.declared.token.Token.{Token}
 use Rattle.value_core.specs.declared.token.Token.TheVariants.{Name, Number, Words, Mark, LongName, LongText}
 use Rattle.value_core.specs.declared.token.Next.{Next}
 use Rattle.value_core.specs.declared.token.Next.TheVariants.{Found, End}
-use Rattle.value_core.specs.declared.lexing.Placed.{Placed}
+use Rattle.value_core.specs.declared.lexing.TokenAt.{TokenAt}
 use Rattle.value_core.specs.declared.lexing.Stop.{Stop}
 use Rattle.value_core.specs.declared.lexing.Stop.TheVariants as stop
 use Rattle.value_core.specs.declared.lexing.Tokens.{Tokens}
@@ -32,23 +32,23 @@ use Rattle.pipe_text.proofs.Joined.{Sound}
 use Rattle.pipe_text.proofs.FileFinds.{decls_read}
 use Rattle.pipe_text.proofs.FileReads.{reads_keyword, all_declared}
 
--- ---- the place where the tokens end
+-- ---- the offset where the tokens end
 
 end_is : (m n : ℕ) → stop.End m ≡ stop.End n → m ≡ n
 end_is m n e = cc
 
-next_end : (size place : ℕ) (r : Result Next ℕ) (rest : ℕ → Tokens) → ((from : ℕ) → (rest from).stop ≡ stop.End place → place ≡ size) → (lexed_next size r rest).stop ≡ stop.End place → place ≡ size
-next_end size place (Ok (Found token at end)) rest next e = next end e
-next_end size place (Ok End) rest next e = sym (end_is size place e)
-next_end size place (Err at) rest next e = absurd cc
+next_end : (size offset : ℕ) (r : Result Next ℕ) (rest : ℕ → Tokens) → ((from : ℕ) → (rest from).stop ≡ stop.End offset → offset ≡ size) → (lexed_next size r rest).stop ≡ stop.End offset → offset ≡ size
+next_end size offset (Ok (Found token at end)) rest next e = next end e
+next_end size offset (Ok End) rest next e = sym (end_is size offset e)
+next_end size offset (Err at) rest next e = absurd cc
 
-from_end : (n : ℕ) (bytes : List ℕ) (from place : ℕ) → (lexed_from n bytes from).stop ≡ stop.End place → place ≡ length bytes
-from_end zero bytes from place e = sym (end_is (length bytes) place e)
-from_end (suc n) bytes from place e = next_end (length bytes) place (next_at bytes from) (lexed_from n bytes) (λ at h. from_end n bytes at place h) e
+from_end : (n : ℕ) (bytes : List ℕ) (from offset : ℕ) → (lexed_from n bytes from).stop ≡ stop.End offset → offset ≡ length bytes
+from_end zero bytes from offset e = sym (end_is (length bytes) offset e)
+from_end (suc n) bytes from offset e = next_end (length bytes) offset (next_at bytes from) (lexed_from n bytes) (λ at h. from_end n bytes at offset h) e
 
-pub lexed_end : (bytes : List ℕ) (place : ℕ) → (lexed bytes).stop ≡ stop.End place → place ≡ length bytes
+pub lexed_end : (bytes : List ℕ) (offset : ℕ) → (lexed bytes).stop ≡ stop.End offset → offset ≡ length bytes
 unfolding lexed
-lexed_end bytes place e = from_end (suc (length bytes)) bytes 0 place e
+lexed_end bytes offset e = from_end (suc (length bytes)) bytes 0 offset e
 
 -- ---- versions
 
@@ -85,22 +85,22 @@ unfolding IsDistinct
 sound_none b = record { few = λ w. omega arith; terms = omega arith; apart = λ e. tt }
 
 -- what is known of the tokens of a file that was read
-pub record FileRead (b : Bounds) (p : Program) (s : Stop) (ts : List Placed) : Type 0 where
+pub record FileRead (b : Bounds) (p : Program) (s : Stop) (ts : List TokenAt) : Type 0 where
   pub version : ℕ
   pub declarations : List Declaration
-  pub place : ℕ
-  pub ended : s ≡ stop.End place
+  pub offset : ℕ
+  pub ended : s ≡ stop.End offset
   pub spelled : FileSpells b.lim b.depth version declarations (tokens_in ts)
   pub is : p ≡ program_of version declarations
   pub sound : Sound b declarations
 
-headed : (ts f1 r1 f2 r2 : List Placed) (v : ℕ) → ts ≡ f1 ++ r1 → r1 ≡ f2 ++ r2 → tokens_in f1 ≡ Name (codes "pipeline") ∷ [] → tokens_in f2 ≡ Number v ∷ [] → tokens_in ts ≡ Name (codes "pipeline") ∷ Number v ∷ tokens_in r2
+headed : (ts f1 r1 f2 r2 : List TokenAt) (v : ℕ) → ts ≡ f1 ++ r1 → r1 ≡ f2 ++ r2 → tokens_in f1 ≡ Name (codes "pipeline") ∷ [] → tokens_in f2 ≡ Number v ∷ [] → tokens_in ts ≡ Name (codes "pipeline") ∷ Number v ∷ tokens_in r2
 headed ts f1 r1 f2 r2 v first second word number = rw (first, tokens_in-append f1 r1, word, second, tokens_in-append f2 r2, number) refl
 
 all_spelled : (b : Bounds) (v : ℕ) (all more : List Declaration) (ks : List Token) → all ≡ more → DeclareAll b.lim b.depth v more ks → DeclareAll b.lim b.depth v all ks
 all_spelled b v all more ks e h = rw e h
 
-pub file_found : (b : Bounds) (s : Stop) (ts : List Placed) (p : Program) → program_at b s ts ≡ Ok p → FileRead b p s ts
+pub file_found : (b : Bounds) (s : Stop) (ts : List TokenAt) (p : Program) → program_at b s ts ≡ Ok p → FileRead b p s ts
 unfolding program_at all_at
 file_found b s ts p e =
     let head = bind_ok (seq (keyword_at (codes "pipeline")) (λ u. version_at) s ts) (λ x. made x.0 (all_at b x.0 [] s x.1)) p e in
@@ -112,7 +112,7 @@ file_found b s ts p e =
     record {
       version = head.0.0;
       declarations = all.0.0;
-      place = read.place;
+      offset = read.offset;
       ended = read.stopped;
       spelled = (number.2.0, tokens_in head.0.1, headed ts word.0 first.0.1 number.0 head.0.1 head.0.0 word.1 number.1 word.2 number.2.1, all_spelled b head.0.0 all.0.0 read.more (tokens_in head.0.1) read.is read.spelled);
       is = sym (ok_is (program_of head.0.0 all.0.0) p all.2);
@@ -134,7 +134,7 @@ read_stands bytes p e =
     let spelling : IsSpelled bytes p = record {
       version = read.version;
       declarations = read.declarations;
-      ended = read.ended ∙ ap stop.End (lexed_end bytes read.place read.ended);
+      ended = read.ended ∙ ap stop.End (lexed_end bytes read.offset read.ended);
       spelled = read.spelled;
       is = read.is;
       few = read.sound.few;
@@ -145,14 +145,14 @@ read_stands bytes p e =
 
 -- ---- what stands there is read
 
-pub file_read : (lim : Limits) (depth : ℕ) (b : Bounds) (v : ℕ) (ds : List Declaration) (place : ℕ) (ts : List Placed) → Under lim b.lim → depth ≤ b.depth → FileSpells lim depth v ds (tokens_in ts) → Sound b ds → program_at b (stop.End place) ts ≡ Ok (program_of v ds)
+pub file_read : (lim : Limits) (depth : ℕ) (b : Bounds) (v : ℕ) (ds : List Declaration) (offset : ℕ) (ts : List TokenAt) → Under lim b.lim → depth ≤ b.depth → FileSpells lim depth v ds (tokens_in ts) → Sound b ds → program_at b (stop.End offset) ts ≡ Ok (program_of v ds)
 unfolding program_at all_at
-file_read lim depth b v ds place ts u deep (is, more, parts, spelled) sound =
+file_read lim depth b v ds offset ts u deep (is, more, parts, spelled) sound =
     let one = split_tokens_in ts (Name (codes "pipeline") ∷ []) (Number v ∷ more) parts in
     let two = split_tokens_in one.1 (Number v ∷ []) more one.4 in
-    let word = (reads_keyword (codes "pipeline") refl).reads (stop.End place) one.0 (two.0 ++ two.1) one.3 tt in
-    let number = (reads_version v is).reads (stop.End place) two.0 two.1 two.3 tt in
-    rw (one.2, two.2, word, number, all_declared lim depth b v ds u deep [] (length two.1) place two.1 (rw two.4 spelled) (omega arith) sound) refl
+    let word = (reads_keyword (codes "pipeline") refl).reads (stop.End offset) one.0 (two.0 ++ two.1) one.3 tt in
+    let number = (reads_version v is).reads (stop.End offset) two.0 two.1 two.3 tt in
+    rw (one.2, two.2, word, number, all_declared lim depth b v ds u deep [] (length two.1) offset two.1 (rw two.4 spelled) (omega arith) sound) refl
 
 not_more : (n m : ℕ) → m ≤ n → nat_lt n m ≡ false
 not_more n m h = grind (arith, nat_tests)

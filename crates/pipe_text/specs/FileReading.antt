@@ -4,7 +4,7 @@ use Rattle.std.specs.List.{list_any}
 use Rattle.value_core.specs.declared.token.Token.{Token}
 use Rattle.value_core.specs.declared.token.Token.TheVariants.{Name, Number, LongName}
 use Rattle.value_core.specs.declared.value.Value.TheVariants as value
-use Rattle.value_core.specs.declared.lexing.Placed.{Placed}
+use Rattle.value_core.specs.declared.lexing.TokenAt.{TokenAt}
 use Rattle.value_core.specs.declared.lexing.Stop.{Stop}
 use Rattle.value_core.specs.Lexing.{lexed}
 use Rattle.op_keys.specs.declared.declarations.Expiry.{Expiry}
@@ -187,11 +187,11 @@ abbrev pub version_at : Reader ℕ
 version_at = branch version_choice
 
 -- the program of the declarations that were read
-abbrev pub made : ℕ → Result (List Declaration × List Placed) Fault → Result Program Fault
+abbrev pub made : ℕ → Result (List Declaration × List TokenAt) Fault → Result Program Fault
 made version read = read >>= λ x. Ok (program_of version x.0)
 
 -- the program of a whole file's tokens
-unfoldable pub program_at : Bounds → Stop → List Placed → Result Program Fault
+unfoldable pub program_at : Bounds → Stop → List TokenAt → Result Program Fault
 program_at b s ts = seq (keyword_at (codes "pipeline")) (λ u. version_at) s ts >>= λ x. made x.0 (all_at b x.0 [] s x.1)
 
 -- the program that the bytes of a file are read as, or the first fault

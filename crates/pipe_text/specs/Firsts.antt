@@ -3,7 +3,7 @@ use Rattle.std.specs.Prelude.{◌≡◌, ℕ, ◌<◌, ◌≤◌, ◌⊎◌, tru
 use Rattle.std.specs.List.{IsDistinct, list_any}
 use Rattle.value_core.specs.declared.token.Token.{Token}
 use Rattle.value_core.specs.declared.token.Token.TheVariants.{Name}
-use Rattle.value_core.specs.declared.lexing.Placed.{Placed}
+use Rattle.value_core.specs.declared.lexing.TokenAt.{TokenAt}
 use Rattle.value_core.specs.declared.lexing.Stop.{Stop}
 use Rattle.value_core.specs.declared.lexing.Stop.TheVariants as stop
 use Rattle.value_core.specs.Lexing.{lexed}
@@ -75,11 +75,11 @@ SameLimit limit.Day a b = a.lim.lifted limit.Day ≡ b.lim.lifted limit.Day
 SameLimit limit.Offset a b = a.lim.lifted limit.Offset ≡ b.lim.lifted limit.Offset
 
 -- The fault is at this token, behind the others, and is what it says. At Syntax no file goes on with the token. At a limit files do, but none that keeps this one limit, however wide the others are. At Duplicate files do, but none that has no name twice.
-abbrev pub RightAt : Bounds → List Token → Placed → Fault → Type 0
+abbrev pub RightAt : Bounds → List Token → TokenAt → Fault → Type 0
 RightAt b ks t (Lex p) = ⊥
-RightAt b ks t (Syntax p) = (p ≡ t.place) × Begins IsFile ks × ((f : File) (more : List Token) → IsFile f (ks ++ t.token ∷ more) → ⊥)
-RightAt b ks t (Limit what n p) = (p ≡ t.place) × (n ≡ number_of what) × GoesOn IsFile (ks ++ t.token ∷ []) × ((f : File) (more : List Token) (c : Bounds) → SameLimit what b c → FileIs c f (ks ++ t.token ∷ more) → ⊥)
-RightAt b ks t (Duplicate n p) = (p ≡ t.place) × GoesOn IsFile (ks ++ t.token ∷ []) × ((f : File) (more : List Token) (c : Bounds) → b.twice ≡ c.twice → FileIs c f (ks ++ t.token ∷ more) → ⊥)
+RightAt b ks t (Syntax p) = (p ≡ t.offset) × Begins IsFile ks × ((f : File) (more : List Token) → IsFile f (ks ++ t.token ∷ more) → ⊥)
+RightAt b ks t (Limit what n p) = (p ≡ t.offset) × (n ≡ number_of what) × GoesOn IsFile (ks ++ t.token ∷ []) × ((f : File) (more : List Token) (c : Bounds) → SameLimit what b c → FileIs c f (ks ++ t.token ∷ more) → ⊥)
+RightAt b ks t (Duplicate n p) = (p ≡ t.offset) × GoesOn IsFile (ks ++ t.token ∷ []) × ((f : File) (more : List Token) (c : Bounds) → b.twice ≡ c.twice → FileIs c f (ks ++ t.token ∷ more) → ⊥)
 
 -- Where the tokens stop, some file begins with them and has more; where the bytes end there, no file has just these.
 abbrev pub RightAtStop : Stop → List Token → Type 0
@@ -87,8 +87,8 @@ RightAtStop (stop.Lex p) ks = Begins IsFile ks
 RightAtStop (stop.End p) ks = Begins IsFile ks × ((f : File) → IsFile f ks → ⊥)
 
 -- the fault of these tokens is what it says
-abbrev pub IsRight : Bounds → Stop → List Placed → Fault → Type 0
-IsRight b s ts f = ((f ≡ fault_of s) × RightAtStop s (tokens_in ts)) ⊎ ((front : List Placed) × (t : Placed) × (after : List Placed) × (ts ≡ front ++ t ∷ after) × RightAt b (tokens_in front) t f)
+abbrev pub IsRight : Bounds → Stop → List TokenAt → Fault → Type 0
+IsRight b s ts f = ((f ≡ fault_of s) × RightAtStop s (tokens_in ts)) ⊎ ((front : List TokenAt) × (t : TokenAt) × (after : List TokenAt) × (ts ≡ front ++ t ∷ after) × RightAt b (tokens_in front) t f)
 
 -- The fault of a file's bytes is what it says: they are too many, or it is that of their tokens.
 abbrev pub IsRightFault : List ℕ → Fault → Type 0
@@ -98,9 +98,9 @@ IsRightFault bytes f = ((f ≡ Limit limit.File 1048576 0) × (1048576 < length 
 abbrev pub Again : List Declaration → DeclWord → List Token → Token → List ℕ → Type 0
 Again ds w ks k n = ((ks ≡ []) × (k ≡ Name n) × (list_any (has_name w n) ds ≡ true)) ⊎ ((w ≡ decl.Client) × (q : List ℕ) × (ks ≡ Name n ∷ []) × (k ≡ Name q) × (list_any (has_pair n q) ds ≡ true))
 
--- The token at the place p gives the name n again: the tokens before are a file whose declarations have it, and the word of one more.
-abbrev pub IsNamedAgain : List Placed → List ℕ → ℕ → Type 0
-IsNamedAgain ts n p = (front : List Placed) × (t : Placed) × (after : List Placed) × (ts ≡ front ++ t ∷ after) × (p ≡ t.place) × (version : ℕ) × (ds : List Declaration) × (w : DeclWord) × (k1 k2 : List Token)
+-- The token at the offset p gives the name n again: the tokens before are a file whose declarations have it, and the word of one more.
+abbrev pub IsNamedAgain : List TokenAt → List ℕ → ℕ → Type 0
+IsNamedAgain ts n p = (front : List TokenAt) × (t : TokenAt) × (after : List TokenAt) × (ts ≡ front ++ t ∷ after) × (p ≡ t.offset) × (version : ℕ) × (ds : List Declaration) × (w : DeclWord) × (k1 k2 : List Token)
     × (tokens_in front ≡ k1 ++ Name (decl_letters w) ∷ k2) × FileSpells file_limits 64 version ds k1 × Again ds w k2 t.token n
 
 -- what the caller is told is what it says, unless memory ran out

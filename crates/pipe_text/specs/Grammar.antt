@@ -89,7 +89,7 @@ pub data What : Type 0 where
   one : Term → What
   many : List Term → What
 
--- Which tokens a term is spelled by, or terms one after the other, with at most so many brackets open at its deepest place and just so many terms in all.
+-- Which tokens a term is spelled by, or terms one after the other, with at most so many brackets open where it is deepest and just so many terms in all.
 pub data Spells (lim : Limits) : ℕ → ℕ → What → List Token → Type 0 where
   is_return : (d : ℕ) (v : Value) (ks : List Token) → IsLiteral lim v ks → Spells lim (suc d) 1 (one (term.Return v)) (form word.Return ks)
   is_fail : (d : ℕ) (f : FailKind) (t : List ℕ) (k : Token) → TextIs lim t k → Spells lim (suc d) 1 (one (term.Fail f t)) (form word.Fail (Name (kind_letters f) ∷ k ∷ []))

@@ -3,7 +3,7 @@ use Rattle.std.specs.Prelude.{◌≡◌, ℕ, ◌==◌, Bool, true, false, List,
 use Rattle.std.specs.Str.{bytes_eq}
 use Rattle.value_core.specs.declared.token.Token.{Token}
 use Rattle.value_core.specs.declared.token.Token.TheVariants.{Name, Words, Mark, LongText}
-use Rattle.value_core.specs.declared.lexing.Placed.{Placed}
+use Rattle.value_core.specs.declared.lexing.TokenAt.{TokenAt}
 use Rattle.value_core.specs.declared.lexing.Stop.{Stop}
 use Rattle.value_core.specs.declared.lexing.Stop.TheVariants as stop
 use Rattle.pipe_text.specs.declared.fault.Fault.{Fault}
@@ -29,15 +29,15 @@ Gives view (Err e) read = Fails e read
 
 -- A reader takes a value from the front of the tokens. Where they stop there is one fault.
 abbrev pub Reader : Type 0 → Type 0
-Reader A = Stop → List Placed → Result (A × List Placed) Fault
+Reader A = Stop → List TokenAt → Result (A × List TokenAt) Fault
 
 -- the fault where a token is wanted and the tokens stop
 abbrev pub fault_of : Stop → Fault
-fault_of (stop.Lex place) = Lex place
-fault_of (stop.End place) = Syntax place
+fault_of (stop.Lex offset) = Lex offset
+fault_of (stop.End offset) = Syntax offset
 
 -- the token in hand
-abbrev pub token_at : Reader Placed
+abbrev pub token_at : Reader TokenAt
 token_at s [] = Err (fault_of s)
 token_at s (t ∷ ts) = Ok (t, ts)
 
@@ -53,21 +53,21 @@ refuse s ts = Err (fault_of s)
 abbrev pub seq : {A B : Type 0} → Reader A → (A → Reader B) → Reader B
 seq r f s ts = r s ts >>= λ x. f x.0 s x.1
 
--- how it goes on behind a token, or the fault at that token's place
+-- how it goes on behind a token, or the fault at that token's offset
 abbrev pub Choice : Type 0 → Type 0
 Choice A = Result (Reader A) (ℕ → Fault)
 
 -- as was chosen
 abbrev pub go : {A : Type 0} → Choice A → ℕ → Reader A
-go (Err f) place s ts = Err (f place)
-go (Ok r) place s ts = r s ts
+go (Err f) offset s ts = Err (f offset)
+go (Ok r) offset s ts = r s ts
 
 -- by the token in hand, which is taken
 abbrev pub branch : {A : Type 0} → (Token → Choice A) → Reader A
-branch table s ts = token_at s ts >>= λ t. go (table t.0.token) t.0.place s t.1
+branch table s ts = token_at s ts >>= λ t. go (table t.0.token) t.0.offset s t.1
 
 -- whether the token in hand passes a test
-abbrev pub next_passes : (Token → Bool) → List Placed → Bool
+abbrev pub next_passes : (Token → Bool) → List TokenAt → Bool
 next_passes test [] = false
 next_passes test (t ∷ ts) = test t.token
 
@@ -77,8 +77,8 @@ peek test r q s ts = if next_passes test ts then r s ts else q s ts
 
 -- the value where the file ends, or a reader where a token is left
 abbrev pub unless_ended : {A : Type 0} → A → Reader A → Reader A
-unless_ended a r (stop.Lex place) [] = Err (Lex place)
-unless_ended a r (stop.End place) [] = Ok (a, [])
+unless_ended a r (stop.Lex offset) [] = Err (Lex offset)
+unless_ended a r (stop.End offset) [] = Ok (a, [])
 unless_ended a r s (t ∷ ts) = r s (t ∷ ts)
 
 -- this mark goes on with nothing

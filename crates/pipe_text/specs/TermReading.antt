@@ -1,6 +1,6 @@
 -- Reading names, texts, literals and terms, up to the first fault.
 use Rattle.std.specs.Prelude.{ℕ, zero, suc, ◌+◌, ◌-◌, ◌==◌, List, [], ◌∷◌, ◌++◌, map, codes, Result, Ok, Err, if◌then◌else◌, Option, Some, None}
-use Rattle.value_core.specs.declared.lexing.Placed.{Placed}
+use Rattle.value_core.specs.declared.lexing.TokenAt.{TokenAt}
 use Rattle.value_core.specs.declared.token.Token.{Token}
 use Rattle.value_core.specs.declared.token.Token.TheVariants.{Name, Number, Words, Mark, LongName, LongText}
 use Rattle.value_core.specs.declared.value.Value.{Value}
@@ -19,7 +19,7 @@ use Rattle.pipe_text.specs.Words.{body_word, fun_word, kind_word}
 use Rattle.pipe_text.specs.Grammar.{Limits, list_of, is_within}
 use Rattle.pipe_text.specs.Readers.{◌>>=◌, Reader, give, seq, Choice, branch, peek, mark_at, chosen, word_at, only, is_string}
 
--- the fault at a place of a token that goes beyond a limit
+-- the fault at an offset of a token that goes beyond a limit
 abbrev pub beyond : LimitName → ℕ → Fault
 beyond what = Limit what (number_of what)
 
@@ -158,9 +158,9 @@ term_at lim zero n = seq (open_at 0 n) (λ u. give (term.All [], 1))
 term_at lim (suc d) n = seq (open_at (suc d) n) (λ u. seq (word_at body_word) (λ w. seq (body_at lim (term_at lim d) (n - 1) w) (λ x. seq (mark_at 41) (λ v. give x))))
 
 -- values of the texts that were read before, in front of those that are read
-abbrev pub behind : {V : Type 0} → (List ℕ → V) → List V → Result (List (List ℕ) × List Placed) Fault → Result (List V × List Placed) Fault
+abbrev pub behind : {V : Type 0} → (List ℕ → V) → List V → Result (List (List ℕ) × List TokenAt) Fault → Result (List V × List TokenAt) Fault
 behind f before read = read >>= λ x. Ok (before ++ map f x.0, x.1)
 
 -- the terms that were read before, in front of those that are read
-abbrev pub behind_parts : List Term → ℕ → Result ((List Term × ℕ) × List Placed) Fault → Result ((List Term × ℕ) × List Placed) Fault
+abbrev pub behind_parts : List Term → ℕ → Result ((List Term × ℕ) × List TokenAt) Fault → Result ((List Term × ℕ) × List TokenAt) Fault
 behind_parts before used read = read >>= λ x. Ok ((before ++ x.0.0, used + x.0.1), x.1)

@@ -18,7 +18,7 @@ use crate::words::{DeclWord, OpWord};
 use op_keys::{ClientDecl, PoolDecl, WorkerDecl};
 use std::alloc::{AllocError, Global};
 use term_core::{InputDecl, NodeDecl, Program};
-use value_core::{ListOf, Placed, Stop, Text, Token};
+use value_core::{ListOf, TokenAt, Stop, Text, Token};
 
 /// What was declared so far, with the names, to look them up, and the number of terms.
 #[derive(Drop)]
@@ -117,8 +117,8 @@ fn take_declared<'a>(
     word: DeclWord,
     it: &Declarations,
     stop: Stop,
-    tokens: &'a [Placed],
-) -> Result<(Text, &'a [Placed]), Unread>
+    tokens: &'a [TokenAt],
+) -> Result<(Text, &'a [TokenAt]), Unread>
     ensures { Gives (λ x. (x.0, x.1.now)) result (declared_at file_bounds word (seen_of it.now) stop tokens.now) }
 {
     let (token, rest) = take_token(stop, tokens)?;
@@ -127,22 +127,22 @@ fn take_declared<'a>(
     match &token.token {
         Token::Name(name) => {
             if is_full {
-                Err(limit_at(what, token.place))
+                Err(limit_at(what, token.offset))
             } else if it.names.has(word, name) {
                 let name = name.copy(alloc)?;
-                Err(Unread::At(Fault::Duplicate(name, token.place)))
+                Err(Unread::At(Fault::Duplicate(name, token.offset)))
             } else {
                 Ok((name.copy(alloc)?, rest))
             }
         }
         Token::LongName => {
             if is_full {
-                Err(limit_at(what, token.place))
+                Err(limit_at(what, token.offset))
             } else {
-                Err(limit_at(LimitName::Name, token.place))
+                Err(limit_at(LimitName::Name, token.offset))
             }
         }
-        _ => Err(syntax_at(token.place)),
+        _ => Err(syntax_at(token.offset)),
     }
 }
 
@@ -152,8 +152,8 @@ fn take_paired<'a>(
     it: &Declarations,
     name: &Text,
     stop: Stop,
-    tokens: &'a [Placed],
-) -> Result<(Text, &'a [Placed]), Unread>
+    tokens: &'a [TokenAt],
+) -> Result<(Text, &'a [TokenAt]), Unread>
     ensures { Gives (λ x. (x.0, x.1.now)) result (paired_at file_bounds (seen_of it.now) name.now stop tokens.now) }
 {
     let (token, rest) = take_token(stop, tokens)?;
@@ -161,13 +161,13 @@ fn take_paired<'a>(
         Token::Name(pool) => {
             if it.has_client(name, pool) {
                 let client = name.copy(alloc)?;
-                Err(Unread::At(Fault::Duplicate(client, token.place)))
+                Err(Unread::At(Fault::Duplicate(client, token.offset)))
             } else {
                 Ok((pool.copy(alloc)?, rest))
             }
         }
-        Token::LongName => Err(limit_at(LimitName::Name, token.place)),
-        _ => Err(syntax_at(token.place)),
+        Token::LongName => Err(limit_at(LimitName::Name, token.offset)),
+        _ => Err(syntax_at(token.offset)),
     }
 }
 
@@ -178,8 +178,8 @@ fn take_rest<'a>(
     word: DeclWord,
     it: &Declarations,
     stop: Stop,
-    tokens: &'a [Placed],
-) -> Result<(Declaration, &'a [Placed]), Unread>
+    tokens: &'a [TokenAt],
+) -> Result<(Declaration, &'a [TokenAt]), Unread>
     ensures gives { Gives (λ x. (x.0, x.1.now)) result (rest_at file_bounds (seen_of it.now) word stop tokens.now) }
     ensures terms { IfOk result (λ x. terms_of x.0 ≤ 4096 - it.now.terms) }
 {
@@ -230,8 +230,8 @@ fn take_decl<'a>(
     alloc: Global,
     it: &Declarations,
     stop: Stop,
-    tokens: &'a [Placed],
-) -> Result<(Declaration, &'a [Placed]), Unread>
+    tokens: &'a [TokenAt],
+) -> Result<(Declaration, &'a [TokenAt]), Unread>
     ensures gives { Gives (λ x. (x.0, x.1.now)) result (decl_at file_bounds (seen_of it.now) stop tokens.now) }
     ensures terms { IfOk result (λ x. terms_of x.0 ≤ 4096 - it.now.terms) }
 {
@@ -240,7 +240,7 @@ fn take_decl<'a>(
 }
 
 /// All declarations up to the end of the file.
-fn take_all(alloc: Global, version: u32, stop: Stop, tokens: &[Placed]) -> Result<Program, Unread>
+fn take_all(alloc: Global, version: u32, stop: Stop, tokens: &[TokenAt]) -> Result<Program, Unread>
     ensures { Gives (λ p. p) result (made version (all_at file_bounds version [] stop tokens.now)) }
 {
     let mut it = Declarations::new(alloc, version);
@@ -257,7 +257,7 @@ fn take_all(alloc: Global, version: u32, stop: Stop, tokens: &[Placed]) -> Resul
         }
     }
     match stop {
-        Stop::Lex(place) => Err(Unread::At(Fault::Lex(place))),
+        Stop::Lex(offset) => Err(Unread::At(Fault::Lex(offset))),
         Stop::End(_) => {
             let Declarations { program, .. } = it;
             Ok(program)
@@ -265,20 +265,20 @@ fn take_all(alloc: Global, version: u32, stop: Stop, tokens: &[Placed]) -> Resul
     }
 }
 
-fn take_version(stop: Stop, tokens: &[Placed]) -> Result<(u32, &[Placed]), Unread>
+fn take_version(stop: Stop, tokens: &[TokenAt]) -> Result<(u32, &[TokenAt]), Unread>
     ensures { Gives (λ x. (x.0, x.1.now)) result (version_at stop tokens.now) }
 {
     let (token, rest) = take_token(stop, tokens)?;
     match &token.token {
         Token::Number(1) => Ok((1, rest)),
         Token::Number(2) => Ok((2, rest)),
-        _ => Err(syntax_at(token.place)),
+        _ => Err(syntax_at(token.offset)),
     }
 }
 
 /// The tokens of a whole file.
 #[tactic(auto, unfolding(crate::specs::FileReading::program_at))]
-pub(crate) fn take_file(alloc: Global, stop: Stop, tokens: &[Placed]) -> Result<Program, Unread>
+pub(crate) fn take_file(alloc: Global, stop: Stop, tokens: &[TokenAt]) -> Result<Program, Unread>
     ensures { Gives (λ p. p) result (program_at file_bounds stop tokens.now) }
 {
     let rest = take_keyword("pipeline", stop, tokens)?;

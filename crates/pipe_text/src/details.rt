@@ -15,15 +15,15 @@ use crate::taking::{
 use crate::words::{OpWord, PeriodWord, SideWord, ValueWord};
 use op_keys::{Expiry, Level, OpDecl};
 use std::alloc::Global;
-use value_core::{ListOf, Placed, Stop, Text, Value};
+use value_core::{ListOf, TokenAt, Stop, Text, Value};
 
 /// The string behind a word that may be left out.
 fn take_optional_text<'a>(
     alloc: Global,
     letters: &str,
     stop: Stop,
-    tokens: &'a [Placed],
-) -> Result<(Option<Text>, &'a [Placed]), Unread>
+    tokens: &'a [TokenAt],
+) -> Result<(Option<Text>, &'a [TokenAt]), Unread>
     ensures { Gives (λ x. (x.0, x.1.now)) result (optional_text_at file_limits letters.now stop tokens.now) }
 {
     if !is_at_keyword(letters, tokens) {
@@ -38,8 +38,8 @@ fn take_optional_text<'a>(
 fn take_flag<'a>(
     letters: &str,
     stop: Stop,
-    tokens: &'a [Placed],
-) -> Result<(bool, &'a [Placed]), Unread>
+    tokens: &'a [TokenAt],
+) -> Result<(bool, &'a [TokenAt]), Unread>
     ensures { Gives (λ x. (x.0, x.1.now)) result (flag_at letters.now stop tokens.now) }
 {
     if !is_at_keyword(letters, tokens) {
@@ -53,8 +53,8 @@ fn take_value_behind(
     alloc: Global,
     word: ValueWord,
     stop: Stop,
-    tokens: &[Placed],
-) -> Result<(InputValue, &[Placed]), Unread>
+    tokens: &[TokenAt],
+) -> Result<(InputValue, &[TokenAt]), Unread>
     ensures { Gives (λ x. (x.0, x.1.now)) result (value_behind file_limits word stop tokens.now) }
 {
     match word {
@@ -82,8 +82,8 @@ fn take_value_behind(
 pub(crate) fn take_value(
     alloc: Global,
     stop: Stop,
-    tokens: &[Placed],
-) -> Result<(InputValue, &[Placed]), Unread>
+    tokens: &[TokenAt],
+) -> Result<(InputValue, &[TokenAt]), Unread>
     ensures { Gives (λ x. (x.0, x.1.now)) result (value_at file_limits stop tokens.now) }
 {
     let (word, rest) = take_word::<ValueWord>(stop, tokens)?;
@@ -91,7 +91,7 @@ pub(crate) fn take_value(
 }
 
 #[tactic(auto, unfolding(crate::specs::FileReading::where_at))]
-fn take_where(alloc: Global, stop: Stop, tokens: &[Placed]) -> Result<(Where, &[Placed]), Unread>
+fn take_where(alloc: Global, stop: Stop, tokens: &[TokenAt]) -> Result<(Where, &[TokenAt]), Unread>
     ensures { Gives (λ x. (x.0, x.1.now)) result (where_at file_limits stop tokens.now) }
 {
     let rest = take_keyword("pool", stop, tokens)?;
@@ -101,17 +101,17 @@ fn take_where(alloc: Global, stop: Stop, tokens: &[Placed]) -> Result<(Where, &[
     let rest = take_keyword("cost", stop, rest)?;
     let (full, rest) = take_number(LimitName::Cost, stop, rest)?;
     let (cached, rest) = take_number(LimitName::Cost, stop, rest)?;
-    let place = Where {
+    let placement = Where {
         pool,
         client,
         full,
         cached,
     };
-    Ok((place, rest))
+    Ok((placement, rest))
 }
 
 /// The level, which is average where none stands there.
-fn take_level(stop: Stop, tokens: &[Placed]) -> Result<(Level, &[Placed]), Unread>
+fn take_level(stop: Stop, tokens: &[TokenAt]) -> Result<(Level, &[TokenAt]), Unread>
     ensures { Gives (λ x. (x.0, x.1.now)) result (level_at stop tokens.now) }
 {
     if !is_at_keyword("level", tokens) {
@@ -122,7 +122,7 @@ fn take_level(stop: Stop, tokens: &[Placed]) -> Result<(Level, &[Placed]), Unrea
 }
 
 #[tactic(auto, unfolding(crate::specs::FileReading::manner_at))]
-fn take_manner(alloc: Global, stop: Stop, tokens: &[Placed]) -> Result<(Manner, &[Placed]), Unread>
+fn take_manner(alloc: Global, stop: Stop, tokens: &[TokenAt]) -> Result<(Manner, &[TokenAt]), Unread>
     ensures { Gives (λ x. (x.0, x.1.now)) result (manner_at file_limits stop tokens.now) }
 {
     let (hint, rest) = take_optional_text(alloc, "hint", stop, tokens)?;
@@ -148,7 +148,7 @@ fn offset_of(side: SideWord, minutes: u64) -> i32
 }
 
 /// The side and the minutes of an offset.
-fn take_offset(stop: Stop, tokens: &[Placed]) -> Result<(i32, &[Placed]), Unread>
+fn take_offset(stop: Stop, tokens: &[TokenAt]) -> Result<(i32, &[TokenAt]), Unread>
     ensures { Gives (λ x. (x.0, x.1.now)) result (offset_at file_limits stop tokens.now) }
 {
     let (side, rest) = take_word::<SideWord>(stop, tokens)?;
@@ -159,8 +159,8 @@ fn take_offset(stop: Stop, tokens: &[Placed]) -> Result<(i32, &[Placed]), Unread
 fn take_period(
     word: PeriodWord,
     stop: Stop,
-    tokens: &[Placed],
-) -> Result<(Expiry, &[Placed]), Unread>
+    tokens: &[TokenAt],
+) -> Result<(Expiry, &[TokenAt]), Unread>
     ensures { Gives (λ x. (x.0, x.1.now)) result (period_behind file_limits word stop tokens.now) }
 {
     match word {
@@ -188,7 +188,7 @@ fn take_period(
 
 /// A schedule, behind its word.
 #[tactic(auto, unfolding(crate::specs::FileReading::schedule_at))]
-fn take_schedule(stop: Stop, tokens: &[Placed]) -> Result<(Expiry, &[Placed]), Unread>
+fn take_schedule(stop: Stop, tokens: &[TokenAt]) -> Result<(Expiry, &[TokenAt]), Unread>
     ensures { Gives (λ x. (x.0, x.1.now)) result (schedule_at file_limits stop tokens.now) }
 {
     let (word, rest) = take_word::<PeriodWord>(stop, tokens)?;
@@ -197,7 +197,7 @@ fn take_schedule(stop: Stop, tokens: &[Placed]) -> Result<(Expiry, &[Placed]), U
 
 /// When a result is looked for anew. A file of version 1 has no schedules.
 #[tactic(auto, unfolding(crate::specs::FileReading::expiry_at))]
-fn take_expiry(version: u32, stop: Stop, tokens: &[Placed]) -> Result<(Expiry, &[Placed]), Unread>
+fn take_expiry(version: u32, stop: Stop, tokens: &[TokenAt]) -> Result<(Expiry, &[TokenAt]), Unread>
     ensures { Gives (λ x. (x.0, x.1.now)) result (expiry_at file_limits version stop tokens.now) }
 {
     if is_at_keyword("valid_for", tokens) {
@@ -217,8 +217,8 @@ fn take_keeping(
     version: u32,
     kind: OpWord,
     stop: Stop,
-    tokens: &[Placed],
-) -> Result<(Keeping, &[Placed]), Unread>
+    tokens: &[TokenAt],
+) -> Result<(Keeping, &[TokenAt]), Unread>
     ensures { Gives (λ x. (x.0, x.1.now)) result (keeping_at file_limits version kind stop tokens.now) }
 {
     match kind {
@@ -242,8 +242,8 @@ fn take_keeping(
 fn take_run(
     alloc: Global,
     stop: Stop,
-    tokens: &[Placed],
-) -> Result<(ListOf<Text>, &[Placed]), Unread>
+    tokens: &[TokenAt],
+) -> Result<(ListOf<Text>, &[TokenAt]), Unread>
     ensures { Gives (λ x. (x.0, x.1.now)) result (run_at file_limits stop tokens.now) }
 {
     let rest = take_keyword("run", stop, tokens)?;
@@ -255,21 +255,21 @@ fn take_run(
 fn op_of(
     name: Text,
     kind: OpWord,
-    place: Where,
+    placement: Where,
     manner: Manner,
     keeping: Keeping,
     no_cancel: bool,
     words: ListOf<Text>,
 ) -> OpDecl
-    ensures { result ≡ op_of name kind place manner keeping no_cancel words }
+    ensures { result ≡ op_of name kind placement manner keeping no_cancel words }
 {
     OpDecl {
         name,
         output: kind == OpWord::Output,
-        pool: place.pool,
-        client: place.client,
-        full: place.full,
-        cached: place.cached,
+        pool: placement.pool,
+        client: placement.client,
+        full: placement.full,
+        cached: placement.cached,
         hint: manner.hint,
         urgent: manner.urgent,
         level: manner.level,
@@ -288,15 +288,15 @@ pub(crate) fn take_op(
     name: Text,
     kind: OpWord,
     stop: Stop,
-    tokens: &[Placed],
-) -> Result<(OpDecl, &[Placed]), Unread>
+    tokens: &[TokenAt],
+) -> Result<(OpDecl, &[TokenAt]), Unread>
     ensures { Gives (λ x. (x.0, x.1.now)) result (op_at file_limits version name kind stop tokens.now) }
 {
-    let (place, rest) = take_where(alloc, stop, tokens)?;
+    let (placement, rest) = take_where(alloc, stop, tokens)?;
     let (manner, rest) = take_manner(alloc, stop, rest)?;
     let (keeping, rest) = take_keeping(version, kind, stop, rest)?;
     let (no_cancel, rest) = take_flag("no_cancel", stop, rest)?;
     let (words, rest) = take_run(alloc, stop, rest)?;
-    let op = op_of(name, kind, place, manner, keeping, no_cancel, words);
+    let op = op_of(name, kind, placement, manner, keeping, no_cancel, words);
     Ok((op, rest))
 }

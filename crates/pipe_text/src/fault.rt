@@ -126,15 +126,15 @@ impl LimitName {
 /// Why a file was not read. Places are counted in bytes from 0.
 #[derive(Debug, Drop)]
 pub enum ReadFault {
-    /// No token or comment begins at this place.
+    /// No token or comment begins at this offset.
     Lex(usize),
-    /// No file goes on with the token at this place, or a file that ends at this place is cut off.
+    /// No file goes on with the token at this offset, or a file that ends at this offset is cut off.
     Syntax(usize),
-    /// The token at this place goes beyond the limit, or below its least number. The number is
+    /// The token at this offset goes beyond the limit, or below its least number. The number is
     /// the greatest one within the limit.
     Limit(LimitName, u64, usize),
     /// A declaration of one kind has this name before. For a client, one of the same pool has,
-    /// and the place is that of the pool's name.
+    /// and the offset is that of the pool's name.
     Duplicate(Text, usize),
     /// Memory ran out. Nothing is known of the file.
     NoMemory,

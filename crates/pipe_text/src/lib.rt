@@ -4,7 +4,7 @@
 //! The grammar and its limits stand in specs/Grammar.antt, specs/FileGrammar.antt and
 //! specs/Standing.antt, as relations between tokens and programs. `taking`, `literals`, `terms`,
 //! `details` and `declarations` are a plain recursive descent over the tokens, each function proved
-//! equal to a reader on lists, which finds the first fault and its place.
+//! equal to a reader on lists, which finds the first fault and its offset.
 #![tactic(auto)]
 
 mod declaration;

@@ -11,7 +11,7 @@ use crate::taking::{
     is_at_mark, is_at_string, limit_at, syntax_at, take_mark, take_room, take_text, take_token,
 };
 use std::alloc::Global;
-use value_core::{ListOf, Placed, Stop, Text, Token, Value};
+use value_core::{ListOf, TokenAt, Stop, Text, Token, Value};
 
 /// One more text of a list, or none where the bracket closes.
 #[tactic(auto, unfolding(crate::specs::TermReading::item_at))]
@@ -19,8 +19,8 @@ fn take_item(
     alloc: Global,
     room: u64,
     stop: Stop,
-    tokens: &[Placed],
-) -> Result<(Option<Text>, &[Placed]), Unread>
+    tokens: &[TokenAt],
+) -> Result<(Option<Text>, &[TokenAt]), Unread>
     ensures gives { Gives (λ x. (x.0, x.1.now)) result (item_at file_limits room stop tokens.now) }
     ensures room { IfOk result (λ x. IfSome x.0 (λ t. 0 < room)) }
 {
@@ -30,13 +30,13 @@ fn take_item(
             if *m == b']' {
                 Ok((None, rest))
             } else if *m != b',' {
-                Err(syntax_at(token.place))
+                Err(syntax_at(token.offset))
             } else {
                 let (text, rest) = take_room(alloc, LimitName::List, room, stop, rest)?;
                 Ok((Some(text), rest))
             }
         }
-        _ => Err(syntax_at(token.place)),
+        _ => Err(syntax_at(token.offset)),
     }
 }
 
@@ -45,8 +45,8 @@ fn take_more_items(
     alloc: Global,
     first: Text,
     stop: Stop,
-    tokens: &[Placed],
-) -> Result<(ListOf<Value>, &[Placed]), Unread>
+    tokens: &[TokenAt],
+) -> Result<(ListOf<Value>, &[TokenAt]), Unread>
     ensures { Gives (λ x. (x.0, x.1.now)) result (behind value.Words (value.Words first ∷ []) (texts_at (item_at file_limits) 255 stop tokens.now)) }
 {
     let mut items = ListOf::new(alloc);
@@ -73,8 +73,8 @@ fn take_more_items(
 pub(crate) fn take_items(
     alloc: Global,
     stop: Stop,
-    tokens: &[Placed],
-) -> Result<(Value, &[Placed]), Unread>
+    tokens: &[TokenAt],
+) -> Result<(Value, &[TokenAt]), Unread>
     ensures { Gives (λ x. (x.0, x.1.now)) result (seq (items_at file_limits) (λ ts. give (list_of ts)) stop tokens.now) }
 {
     if is_at_mark(b']', tokens) {
@@ -91,30 +91,30 @@ pub(crate) fn take_items(
 pub(crate) fn take_literal(
     alloc: Global,
     stop: Stop,
-    tokens: &[Placed],
-) -> Result<(Value, &[Placed]), Unread>
+    tokens: &[TokenAt],
+) -> Result<(Value, &[TokenAt]), Unread>
     ensures { Gives (λ x. (x.0, x.1.now)) result (literal_at file_limits stop tokens.now) }
 {
     let (token, rest) = take_token(stop, tokens)?;
     match &token.token {
         Token::Words(text) => Ok((Value::Words(text.copy(alloc)?), rest)),
-        Token::LongText => Err(limit_at(LimitName::Text, token.place)),
+        Token::LongText => Err(limit_at(LimitName::Text, token.offset)),
         Token::Number(n) => Ok((Value::Num(*n), rest)),
         Token::Name(name) => {
             if name.as_str() == "unit" {
                 Ok((Value::Unit, rest))
             } else {
-                Err(syntax_at(token.place))
+                Err(syntax_at(token.offset))
             }
         }
         Token::Mark(m) => {
             if *m == b'[' {
                 take_items(alloc, stop, rest)
             } else {
-                Err(syntax_at(token.place))
+                Err(syntax_at(token.offset))
             }
         }
-        Token::LongName => Err(syntax_at(token.place)),
+        Token::LongName => Err(syntax_at(token.offset)),
     }
 }
 
@@ -124,8 +124,8 @@ fn take_command_word(
     alloc: Global,
     room: u64,
     stop: Stop,
-    tokens: &[Placed],
-) -> Result<(Option<Text>, &[Placed]), Unread>
+    tokens: &[TokenAt],
+) -> Result<(Option<Text>, &[TokenAt]), Unread>
     ensures gives { Gives (λ x. (x.0, x.1.now)) result (command_word_at file_limits room stop tokens.now) }
     ensures room { IfOk result (λ x. IfSome x.0 (λ t. 0 < room)) }
 {
@@ -141,8 +141,8 @@ pub(crate) fn take_more_words(
     alloc: Global,
     first: Text,
     stop: Stop,
-    tokens: &[Placed],
-) -> Result<(ListOf<Text>, &[Placed]), Unread>
+    tokens: &[TokenAt],
+) -> Result<(ListOf<Text>, &[TokenAt]), Unread>
     ensures { Gives (λ x. (x.0, x.1.now)) result (behind (λ t. t) (first ∷ []) (texts_at (command_word_at file_limits) 63 stop tokens.now)) }
 {
     let mut words = ListOf::new(alloc);

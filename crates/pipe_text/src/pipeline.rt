@@ -31,10 +31,10 @@ fn told(fault: Fault) -> ReadFault
     ensures { result ≡ told fault }
 {
     match fault {
-        Fault::Lex(place) => ReadFault::Lex(place),
-        Fault::Syntax(place) => ReadFault::Syntax(place),
-        Fault::Limit(what, number, place) => ReadFault::Limit(what, number, place),
-        Fault::Duplicate(name, place) => ReadFault::Duplicate(name, place),
+        Fault::Lex(offset) => ReadFault::Lex(offset),
+        Fault::Syntax(offset) => ReadFault::Syntax(offset),
+        Fault::Limit(what, number, offset) => ReadFault::Limit(what, number, offset),
+        Fault::Duplicate(name, offset) => ReadFault::Duplicate(name, offset),
     }
 }
 

@@ -11,7 +11,7 @@ use crate::words::BodyWord;
 use sqlite_items::Boxed;
 use std::alloc::Global;
 use term_core::{FailKind, Term};
-use value_core::{Fun, ListOf, Placed, Stop};
+use value_core::{Fun, ListOf, TokenAt, Stop};
 
 /// Two terms.
 #[derive(Drop)]
@@ -30,8 +30,8 @@ fn take_body(
     depth: u8,
     left: u32,
     stop: Stop,
-    tokens: &[Placed],
-) -> Result<(Term, u32, &[Placed]), Unread>
+    tokens: &[TokenAt],
+) -> Result<(Term, u32, &[TokenAt]), Unread>
     requires { left < 2 ^ 31 }
     ensures gives { Gives (λ x. ((x.0, x.1), x.2.now)) result (body_at file_limits (term_at file_limits depth) left word stop tokens.now) }
     ensures used { IfOk result (λ x. (0 < x.1) × (x.1 ≤ left + 1)) }
@@ -159,8 +159,8 @@ fn take_two(
     depth: u8,
     left: u32,
     stop: Stop,
-    tokens: &[Placed],
-) -> Result<(Two, u32, &[Placed]), Unread>
+    tokens: &[TokenAt],
+) -> Result<(Two, u32, &[TokenAt]), Unread>
     requires { left < 2 ^ 31 }
     ensures gives { Gives (λ x. (((x.0.first, x.0.second), x.1), x.2.now)) result (two_at (term_at file_limits depth) left stop tokens.now) }
     ensures used { IfOk result (λ x. x.1 ≤ left) }
@@ -181,8 +181,8 @@ fn take_part(
     depth: u8,
     left: u32,
     stop: Stop,
-    tokens: &[Placed],
-) -> Result<(Option<(Term, u32)>, &[Placed]), Unread>
+    tokens: &[TokenAt],
+) -> Result<(Option<(Term, u32)>, &[TokenAt]), Unread>
     requires { left < 2 ^ 31 }
     ensures gives { Gives (λ x. (x.0, x.1.now)) result (part_at (term_at file_limits depth) left stop tokens.now) }
     ensures used { IfOk result (λ x. IfSome x.0 (λ a. (0 < a.1) × (a.1 ≤ left))) }
@@ -201,8 +201,8 @@ fn take_parts(
     depth: u8,
     left: u32,
     stop: Stop,
-    tokens: &[Placed],
-) -> Result<(ListOf<Term>, u32, &[Placed]), Unread>
+    tokens: &[TokenAt],
+) -> Result<(ListOf<Term>, u32, &[TokenAt]), Unread>
     requires { left < 2 ^ 31 }
     ensures gives { Gives (λ x. ((x.0, x.1), x.2.now)) result (parts_at (term_at file_limits depth) left left stop tokens.now) }
     ensures used { IfOk result (λ x. x.1 ≤ left) }
@@ -234,8 +234,8 @@ pub(crate) fn take_term(
     depth: u8,
     left: u32,
     stop: Stop,
-    tokens: &[Placed],
-) -> Result<(Term, u32, &[Placed]), Unread>
+    tokens: &[TokenAt],
+) -> Result<(Term, u32, &[TokenAt]), Unread>
     requires { left < 2 ^ 31 }
     ensures gives { Gives (λ x. ((x.0, x.1), x.2.now)) result (term_at file_limits depth left stop tokens.now) }
     ensures used { IfOk result (λ x. (0 < x.1) × (x.1 ≤ left)) }

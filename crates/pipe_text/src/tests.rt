@@ -7,15 +7,15 @@ use term_core::Program;
 /// A fault in the words that the program prints.
 fn words_of(alloc: Global, fault: ReadFault) -> Result<String, AllocError> {
     match fault {
-        ReadFault::Lex(place) => format!(in alloc; "lex at {place}"),
-        ReadFault::Syntax(place) => format!(in alloc; "syntax at {place}"),
-        ReadFault::Limit(what, number, place) => {
+        ReadFault::Lex(offset) => format!(in alloc; "lex at {offset}"),
+        ReadFault::Syntax(offset) => format!(in alloc; "syntax at {offset}"),
+        ReadFault::Limit(what, number, offset) => {
             let name = what.word();
-            format!(in alloc; "limit {name} {number} at {place}")
+            format!(in alloc; "limit {name} {number} at {offset}")
         }
-        ReadFault::Duplicate(name, place) => {
+        ReadFault::Duplicate(name, offset) => {
             let name = name.as_str();
-            format!(in alloc; "duplicate {name} at {place}")
+            format!(in alloc; "duplicate {name} at {offset}")
         }
         ReadFault::NoMemory => String::from_str(alloc, "no memory"),
     }
@@ -37,7 +37,7 @@ fn repeated(alloc: Global, front: &str, piece: &str, count: usize) -> Result<Str
     Ok(text)
 }
 
-/// A file, and the place of its first fault with its cause.
+/// A file, and the offset of its first fault with its cause.
 const FAULTS: [(&str, &str); 19] = [
     ("", "syntax at 0"),
     ("pipeline 1\nnode n (fial)", "syntax at 19"),
@@ -138,11 +138,11 @@ node tested (list_iter b (node names) (map equal (pair (build test (var b)) (ret
 node ship (bind img (gate (node tested) (build compile (return \"main\"))) (output deploy (return \"prod\") (var img)))
 ";
 
-/// Whether the first bytes of a file are read, or are refused at a place within them.
+/// Whether the first bytes of a file are read, or are refused at an offset within them.
 fn is_told(alloc: Global, bytes: &[u8]) -> bool {
     match read_pipeline(alloc, bytes) {
         Ok(_) => true,
-        Err(ReadFault::Lex(place)) | Err(ReadFault::Syntax(place)) => place <= bytes.len(),
+        Err(ReadFault::Lex(offset)) | Err(ReadFault::Syntax(offset)) => offset <= bytes.len(),
         Err(_) => false,
     }
 }

@@ -1,7 +1,7 @@
 -- The limits of a program.
 use Rattle.std.specs.Prelude.{◌≡◌, ℕ, ◌+◌, ◌^◌, ◌≤◌, ◌≤ℤ◌, ℤ, pos, negsuc, max, nat_le, nat_lt, Bool, true, false, ◌&&◌, List, [], ◌∷◌, length, map, sum, Option, Some, None}
 use Rattle.std.specs.List.{AllByRecursion, list_all}
-use Rattle.value_core.specs.Tokens.{is_letter, is_word_byte}
+use Rattle.value_core.specs.Names.{is_letter, is_word_byte}
 use Rattle.value_core.specs.Values.{weight_of}
 use Rattle.value_core.specs.declared.value.Outcome.{Outcome}
 use Rattle.value_core.specs.declared.value.Value.{Value, Value-F, out-Value}

@@ -1,6 +1,6 @@
 -- A string is read as it is spelled.
-use Rattle.std.proofs.Common.{◌≡◌, ℕ, ◌+◌, ◌*◌, Bool, true, false, cond, List, [], ◌∷◌, ◌++◌, map, length, refl, sym, ap, ◌∙◌, append_assoc, length-append, arith, inl, inr}
-use Rattle.std.specs.Prelude.{Option, Some, None, ◌==◌, ◌&&◌, ◌||◌, if◌then◌else◌, nat_lt, ◌⊎◌}
+use Rattle.std.proofs.Common.{◌≡◌, ℕ, ◌+◌, ◌*◌, Bool, true, false, cond, List, [], ◌∷◌, ◌++◌, map, length, refl, sym, ap, ◌∙◌, append_assoc, length-append, arith}
+use Rattle.std.specs.Prelude.{Option, Some, None, ◌==◌, ◌&&◌, ◌||◌, if◌then◌else◌, nat_lt}
 use Rattle.std.specs.List.{flat_map, list_all}
 use Rattle.std.proofs.lemmas.Bool.Decides.{nat_tests}
 use Rattle.value_core.specs.declared.strings.Mode.{Mode}
@@ -9,10 +9,7 @@ use Rattle.value_core.specs.declared.strings.Step.{Step}
 use Rattle.value_core.specs.declared.strings.Step.TheVariants.{Ends, Adds, Turns, Wrong}
 use Rattle.value_core.specs.Strings.{with_byte, later, go_on, step, is_hex, hex_value, is_control, body_at}
 use Rattle.value_core.specs.Pieces.{Piece, plain, short, hex, spelled, short_value, meant, is_right, BeginsString}
-
-and_parts : (a b : Bool) → (a && b) ≡ true → (a ≡ true) × (b ≡ true)
-and_parts true b e = (refl, e)
-and_parts false b e = absurd cc
+use Rattle.value_core.proofs.Basics.{and_parts, nat_is, some_is}
 
 plain_step : (b : ℕ) → is_right (plain b) ≡ true → step Plain b ≡ Adds b
 plain_step b e = grind (arith, nat_tests)
@@ -22,10 +19,6 @@ slash_step = refl
 
 short_step : (b : ℕ) → is_right (short b) ≡ true → step Slash b ≡ Adds (short_value b)
 short_step b e = grind (arith, nat_tests)
-
-more_bytes : List ℕ → ℕ → Option (List ℕ × ℕ) → Option (List ℕ × ℕ)
-more_bytes t n None = None
-more_bytes t n (Some x) = Some (t ++ x.0, n + x.1)
 
 -- one piece more
 piece_read : (p : Piece) (bs : List ℕ) (t : List ℕ) (n : ℕ) → is_right p ≡ true → body_at Plain bs ≡ Some (t, n) → body_at Plain (spelled p ++ bs) ≡ Some (meant p ∷ t, length (spelled p) + n)
@@ -48,11 +41,6 @@ body_all (p ∷ ps) rest e =
     ap (body_at Plain) (append_assoc (spelled p) (flat_map spelled ps) (34 ∷ rest)) ∙ ih ∙ (λ i. Some (meant p ∷ map meant ps, len i))
 
 -- ---- what is read is spelled so
-
--- which test of an `if` held
-cond_is : {A : Type 0} (b : Bool) (x y z : A) → cond b x y ≡ z → ((b ≡ true) × (x ≡ z)) ⊎ ((b ≡ false) × (y ≡ z))
-cond_is true x y z e = inl (refl, e)
-cond_is false x y z e = inr (refl, e)
 
 -- the digit of a value
 digit_of : ℕ → ℕ
@@ -84,10 +72,7 @@ if_means : (m : Mode) (k : ℕ) (b : Bool) (x y : Step) → (b ≡ true → Mean
 if_means m k true x y f g = f refl
 if_means m k false x y f g = g refl
 
-nat_is : (m c : ℕ) → (m == c) ≡ true → m ≡ c
-nat_is m c e = grind (arith, nat_tests)
-
-plain_right : (b : ℕ) → (b == 34) ≡ false → (b == 92) ≡ false → (nat_lt b 32 || b == 127) ≡ false → is_right (plain b) ≡ true
+pub plain_right : (b : ℕ) → (b == 34) ≡ false → (b == 92) ≡ false → (nat_lt b 32 || b == 127) ≡ false → is_right (plain b) ≡ true
 plain_right b q s c = grind (arith, nat_tests, q, s, c)
 
 quote_slash : (b : ℕ) → (b == 34 || b == 92) ≡ true → (is_right (short b) ≡ true) × (short_value b ≡ b)
@@ -123,12 +108,6 @@ step_means (Digit v) b =
 
 abbrev Found : Mode → List ℕ → List ℕ → Type 0
 Found m bs t = (ps : List Piece) × (rest : List ℕ) × (list_all is_right ps ≡ true) × (pending m ++ bs ≡ flat_map spelled ps ++ 34 ∷ rest) × (t ≡ map meant ps)
-
-abbrev some_of : (List ℕ × ℕ) → Option (List ℕ × ℕ)
-some_of x = Some x
-
-some_is : (x y : List ℕ × ℕ) → some_of x ≡ some_of y → x ≡ y
-some_is x y e = cc
 
 plain_bytes : (bs : List ℕ) {l : List ℕ} → pending Plain ++ bs ≡ l → bs ≡ l
 unfolding pending

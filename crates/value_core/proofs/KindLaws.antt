@@ -1,16 +1,16 @@
 -- What a function gives for a value of a kind that it takes is of the kind that it gives.
 use Rattle.std.proofs.Common.{◌≡◌, ℕ, Bool, true, false, cond, List, [], ◌∷◌, ◌++◌, length, refl, sym, ap, subst, ◌∙◌}
-use Rattle.std.specs.Prelude.{Option, Some, None, ◌&&◌, codes}
+use Rattle.std.specs.Prelude.{Option, Some, None, codes}
 use Rattle.std.specs.Fmt.{decimal}
 use Rattle.std.specs.List.{list_all}
 use Rattle.value_core.specs.declared.function.Applied.{Applied}
 use Rattle.value_core.specs.declared.function.Applied.TheVariants.{Fine, Bad}
 use Rattle.value_core.specs.declared.function.Fun.{Fun}
 use Rattle.value_core.specs.declared.function.Fun.TheVariants as fun
-use Rattle.value_core.specs.declared.value.Kind.{Kind, Kind-F, roll-Kind, out-Kind, map-Kind, fold-roll-Kind, fold_out-Kind}
+use Rattle.value_core.specs.declared.value.Kind.{Kind, Kind-F, out-Kind, map-Kind, fold_out-Kind}
 use Rattle.value_core.specs.declared.value.Kind.TheVariants as kind
 use Rattle.value_core.specs.declared.value.Outcome.{Outcome, Outcome-F, out-Outcome}
-use Rattle.value_core.specs.declared.value.Value.{Value, Value-F, roll-Value, out-Value, out-roll-Value}
+use Rattle.value_core.specs.declared.value.Value.{Value, Value-F, out-Value}
 use Rattle.value_core.specs.declared.value.Value.TheVariants as value
 use Rattle.value_core.specs.Codes.{kind_code}
 use Rattle.value_core.specs.Cuts.{trimmed}
@@ -19,14 +19,10 @@ use Rattle.value_core.specs.Functions.{limited_text, limited_list, limited_numbe
 use Rattle.value_core.specs.Parts.{text_values, text_in, number_in, items_in, outcome_in, first_layer, second_layer, outcome_layer}
 use Rattle.value_core.specs.Same.{same}
 use Rattle.value_core.specs.Values.{layer_fits, outcome_fits, fits_step, fits_kind}
+use Rattle.value_core.proofs.Basics.{and_parts}
+use Rattle.value_core.proofs.Layers.{fits_layer, out_at}
 
 -- ---- values of a kind
-
-fits_layer : (l : Kind-F Kind) (k : Kind) → roll-Kind l ≡ k → (v : Value) → fits_kind k v ≡ layer_fits (map-Kind Kind (Value → Bool) fits_kind l) (out-Value v)
-fits_layer l k e v = ap (λ j. fits_kind j v) (sym e) ∙ ap (λ (f : Value → Bool). f v) (fold-roll-Kind (Value → Bool) fits_step l)
-
-out_at : (l : Value-F Outcome Value) (v : Value) → roll-Value l ≡ v → out-Value v ≡ l
-out_at l v e = ap out-Value (sym e) ∙ out-roll-Value l
 
 fits_words : (t : List ℕ) → fits_kind kind.Text (value.Words t) ≡ true
 fits_words t = fits_layer Kind-F.Text kind.Text kind.rolls-Text (value.Words t) ∙ ap (layer_fits Kind-F.Text) (out_at (Value-F.Words t) (value.Words t) (value.rolls-Words t))
@@ -104,12 +100,8 @@ in_words (Kind-F.List i) to a p e = absurd cc
 abbrev Fits : Kind-F Kind → Value-F Outcome Value → Type 0
 Fits l m = layer_fits (map-Kind Kind (Value → Bool) fits_kind l) m ≡ true
 
-both_parts : (a b : Bool) → (a && b) ≡ true → (a ≡ true) × (b ≡ true)
-both_parts true b e = (refl, e)
-both_parts false b e = absurd cc
-
 pair_fits : (i j : Kind) (m : Value-F Outcome Value) → Fits (Kind-F.Pair i j) m → (fits_kind i (first_layer m) ≡ true) × (fits_kind j (second_layer m) ≡ true)
-pair_fits i j (Value-F.Pair x y) h = both_parts (fits_kind i x) (fits_kind j y) h
+pair_fits i j (Value-F.Pair x y) h = and_parts (fits_kind i x) (fits_kind j y) h
 pair_fits i j (Value-F.Words t) h = absurd cc
 pair_fits i j (Value-F.Num n) h = absurd cc
 pair_fits i j Value-F.Unit h = absurd cc

@@ -1,3 +1,5 @@
+pub mod Basics
+pub mod Layers
 pub mod Escapes
 pub mod Scans
 pub mod Sames

@@ -1,29 +1,26 @@
 -- What has no zero byte: lists put together, parts of one, and printed forms.
 use Rattle.std.proofs.Common.{◌≡◌, ℕ, zero, suc, ◌+◌, ◌<◌, ◌^◌, ◌/◌, ◌%◌, Bool, true, false, cond, List, [], ◌∷◌, ◌++◌, take, drop, refl, arith}
-use Rattle.std.specs.Prelude.{◌&&◌, ◌||◌, ◌==◌, not, nat_lt, if◌then◌else◌, codes}
+use Rattle.std.specs.Prelude.{◌||◌, ◌==◌, not, nat_lt, if◌then◌else◌, codes}
 use Rattle.std.specs.Fmt.{decimal, digit_glyph}
 use Rattle.std.proofs.lemmas.Fmt.{decimal_by_steps}
 use Rattle.std.proofs.lemmas.Bool.Decides.{nat_tests}
 use Rattle.value_core.specs.Texts.{no_nul, HasNoNul}
 use Rattle.value_core.specs.Printed.{escape, escaped, hex_escape, quoted}
-
-both_parts : (a b : Bool) → (a && b) ≡ true → (a ≡ true) × (b ≡ true)
-both_parts true b e = (refl, e)
-both_parts false b e = absurd cc
+use Rattle.value_core.proofs.Basics.{and_parts}
 
 pub no_nul_both : (xs ys : List ℕ) → HasNoNul xs → HasNoNul ys → HasNoNul (xs ++ ys)
 no_nul_both [] ys e f = f
-no_nul_both (x ∷ xs) ys e f = let p = both_parts (not (x == 0)) (no_nul xs) e in rw (p.0, no_nul_both xs ys p.1 f) refl
+no_nul_both (x ∷ xs) ys e f = let p = and_parts (not (x == 0)) (no_nul xs) e in rw (p.0, no_nul_both xs ys p.1 f) refl
 
 pub no_nul_take : (n : ℕ) (bs : List ℕ) → HasNoNul bs → HasNoNul (take n bs)
 no_nul_take zero bs e = refl
 no_nul_take (suc n) [] e = refl
-no_nul_take (suc n) (b ∷ bs) e = let p = both_parts (not (b == 0)) (no_nul bs) e in rw (p.0, no_nul_take n bs p.1) refl
+no_nul_take (suc n) (b ∷ bs) e = let p = and_parts (not (b == 0)) (no_nul bs) e in rw (p.0, no_nul_take n bs p.1) refl
 
 pub no_nul_drop : (n : ℕ) (bs : List ℕ) → HasNoNul bs → HasNoNul (drop n bs)
 no_nul_drop zero bs e = e
 no_nul_drop (suc n) [] e = refl
-no_nul_drop (suc n) (b ∷ bs) e = no_nul_drop n bs (both_parts (not (b == 0)) (no_nul bs) e).1
+no_nul_drop (suc n) (b ∷ bs) e = no_nul_drop n bs (and_parts (not (b == 0)) (no_nul bs) e).1
 
 -- what is written after a text without NUL
 pub no_nul_grown : (before added now : List ℕ) → now ≡ before ++ added → HasNoNul added → HasNoNul before → HasNoNul now
@@ -55,7 +52,7 @@ not_nul b e = grind (arith, nat_tests)
 
 pub escaped_clean : (bs : List ℕ) → HasNoNul bs → HasNoNul (escaped bs)
 escaped_clean [] e = refl
-escaped_clean (b ∷ bs) e = let p = both_parts (not (b == 0)) (no_nul bs) e in no_nul_both (escape b) (escaped bs) (escape_clean b (not_nul b p.0)) (escaped_clean bs p.1)
+escaped_clean (b ∷ bs) e = let p = and_parts (not (b == 0)) (no_nul bs) e in no_nul_both (escape b) (escaped bs) (escape_clean b (not_nul b p.0)) (escaped_clean bs p.1)
 
 pub quoted_clean : (t : List ℕ) → HasNoNul t → HasNoNul (quoted t)
 quoted_clean t e = no_nul_both (codes "\"") (escaped t ++ codes "\"") refl (no_nul_both (escaped t) (codes "\"") (escaped_clean t e) refl)

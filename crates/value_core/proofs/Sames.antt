@@ -1,20 +1,17 @@
 -- The codes of two values are equal exactly where the values are.
-use Rattle.std.specs.Prelude.{◌≡◌, Bool, true, false, ◌&&◌, IsTrue, ◌↔◌, refl}
+use Rattle.std.specs.Prelude.{◌≡◌, Bool, true, false, IsTrue, ◌↔◌, refl}
 use Rattle.std.specs.Coded.{Coded}
 use Rattle.std.proofs.Common.{ap, sym, subst, arith}
 use Rattle.std.proofs.lemmas.Bool.Decides.{nat_tests}
 use base.Stored.{Gv, gnil, gnum, gcons}
 use Rattle.value_core.specs.Same.{same_code, same}
-
-and-true : (a b : Bool) → (a && b) ≡ true → (a ≡ true) × (b ≡ true)
-and-true true b h = (refl, h)
-and-true false b h = cc
+use Rattle.value_core.proofs.Basics.{and_parts}
 
 same_code-true : (x y : Gv) → same_code x y ≡ true → x ≡ y
 same_code-true gnil gnil h = refl
 same_code-true (gnum m) (gnum n) h = let e : m ≡ n = grind (arith, nat_tests) in ap gnum e
 same_code-true (gcons a b) (gcons c d) h =
-    let s = and-true (same_code a c) (same_code b d) h in
+    let s = and_parts (same_code a c) (same_code b d) h in
     let e = same_code-true a c s.0 in
     let f = same_code-true b d s.1 in
     cc

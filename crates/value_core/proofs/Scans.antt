@@ -17,15 +17,13 @@ use Rattle.value_core.specs.declared.strings.Mode.TheVariants.{Plain, Slash, Hex
 use Rattle.value_core.specs.declared.strings.Step.{Step}
 use Rattle.value_core.specs.declared.strings.Step.TheVariants.{Ends, Adds, Turns, Wrong}
 use Rattle.value_core.specs.Texts.{no_nul}
+use Rattle.value_core.specs.Names.{is_word_byte}
 use Rattle.value_core.specs.Strings.{with_byte, later, go_on, step, is_hex, hex_value, is_control, body_at}
-use Rattle.value_core.specs.Tokens.{gap, is_blank, in_line, line, is_word_byte, number_of}
-
-bool_cases : (b : Bool) → (b ≡ true → ⊥) → b ≡ false
-bool_cases true h = absurd (h refl)
-bool_cases false h = refl
+use Rattle.value_core.specs.Tokens.{gap, is_blank, in_line, line, number_of}
+use Rattle.value_core.proofs.Basics.{and_parts, nat_lt_is, not_true}
 
 pub not_utf8 : (bs : List ℕ) → ¬ (IsUtf8 bs) → is_utf8 bs ≡ false
-not_utf8 bs bad = bool_cases (is_utf8 bs) (λ e. bad (IsUtf8-from_is_utf8 bs e))
+not_utf8 bs bad = not_true (is_utf8 bs) (λ e. bad (IsUtf8-from_is_utf8 bs e))
 
 -- what was read before, and what is read from here
 abbrev pub prefixed : List ℕ → ℕ → Option (List ℕ × ℕ) → Option (List ℕ × ℕ)
@@ -80,10 +78,6 @@ mark_some b e = grind (arith, nat_tests)
 
 control_some : (c : ℕ) → is_control c ≡ true → (c == 0) ≡ false
 control_some c e = grind (arith, nat_tests)
-
-and_parts : (a b : Bool) → (a && b) ≡ true → (a ≡ true) × (b ≡ true)
-and_parts true b e = (refl, e)
-and_parts false b e = absurd cc
 
 step_some : (m : Mode) (b : ℕ) → adds_some (step m b)
 step_some Plain b =
@@ -171,9 +165,6 @@ digits_ascii (b ∷ bs) e = let p = and_parts (is_ascii_digit b) (all_ascii_digi
 pub digits_utf8 : (w : List ℕ) → all_ascii_digits w ≡ true → IsUtf8 w
 digits_utf8 w e = IsUtf8-from_ascii w (digits_ascii w e)
 
-nat_lt-is : (a b : ℕ) → nat_lt a b ≡ true → a < b
-nat_lt-is a b e = grind (arith, nat_tests)
-
 if_big : (a b c : Bool) (o : Option ℕ) → c ≡ false → cond (a && (b && c)) o None ≡ None
 if_big true true c o e = rw e refl
 if_big true false c o e = refl
@@ -186,7 +177,7 @@ big_is (b ∷ bs) e = if_big (all_ascii_digits (b ∷ bs)) (not (b == 48) || nat
 pub too_big : {E : Type 0} (w : List ℕ) (r : Result ℕ E) (e : E) → all_ascii_digits w ≡ true → 0 < length w → ParsesUnsigned 64 10 w r → r ≡ Err e → number_of w ≡ None
 too_big w r e digits some parses is =
     let parsed = parse_digits (numerals_by_value _ tells_all_ascii_digits) 64 w r parses digits in
-    big_is w (bool_cases _ (λ small. let no_number = rw is at parsed in no_number (some, nat_lt-is _ _ small)))
+    big_is w (not_true _ (λ small. let no_number = rw is at parsed in no_number (some, nat_lt_is _ _ small)))
 
 -- ---- blank space
 

@@ -1,4 +1,4 @@
--- Which kind of value each function takes, and which it gives for it.
+-- Which kind of value each function takes, and which it returns for it.
 use Rattle.std.specs.Prelude.{◌≡◌, true, if◌then◌else◌, Option, Some, None}
 use Rattle.value_core.specs.declared.function.Applied.{Applied}
 use Rattle.value_core.specs.declared.function.Applied.TheVariants.{Fine, Bad}
@@ -6,7 +6,9 @@ use Rattle.value_core.specs.declared.function.Fun.{Fun}
 use Rattle.value_core.specs.declared.function.Fun.TheVariants as fun
 use Rattle.value_core.specs.declared.value.Kind.{Kind, Kind-F, out-Kind}
 use Rattle.value_core.specs.declared.value.Kind.TheVariants as kind
+use Rattle.value_core.specs.declared.value.Value.{Value}
 use Rattle.value_core.specs.Codes.{kind_code}
+use Rattle.value_core.specs.Functions.{fn_value}
 use Rattle.value_core.specs.Same.{same}
 use Rattle.value_core.specs.Values.{fits_kind}
 
@@ -39,7 +41,7 @@ abbrev pub demanded_kind : Kind-F Kind → Option Kind
 demanded_kind (Kind-F.Out a) = Some a
 demanded_kind k = None
 
--- the kind that each function gives for a kind, where it takes that kind
+-- the kind that each function returns for a kind, if it takes that kind
 unfoldable pub kind_given : Fun → Kind → Option Kind
 kind_given fun.Trim k = given_for kind.Text kind.Text k
 kind_given fun.Lines k = given_for kind.Text (kind.List kind.Text) k
@@ -62,3 +64,7 @@ kind_given fun.Must k = demanded_kind (out-Kind k)
 abbrev pub IsOfKind : Kind → Applied → Type 0
 IsOfKind k (Fine v) = fits_kind k v ≡ true
 IsOfKind k (Bad m) = Unit {0}
+
+-- a function over a value of a kind that it takes fails, or returns a value of the kind that it promises for it
+abbrev pub KeepsKinds : Type 0
+KeepsKinds = (f : Fun) (k to : Kind) (v : Value) → kind_given f k ≡ Some to → fits_kind k v ≡ true → IsOfKind to (fn_value f v)

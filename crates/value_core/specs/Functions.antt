@@ -1,4 +1,4 @@
--- What each function gives for a value.
+-- What each function returns for a value.
 use Rattle.std.specs.Prelude.{ℕ, ◌+◌, ◌^◌, nat_lt, nat_le, if◌then◌else◌, Bool, List, [], ◌∷◌, ◌++◌, length, codes, Option, Some, None}
 use Rattle.std.specs.Fmt.{decimal}
 use Rattle.std.specs.List.{flat_map}
@@ -37,7 +37,7 @@ abbrev pub spelled_number : Option ℕ → Applied
 spelled_number None = Bad (codes "not a number")
 spelled_number (Some n) = Fine (value.Num n)
 
--- unit where a test holds, else a message
+-- unit if a test holds, else a message
 abbrev pub unit_if : Bool → List ℕ → Applied
 unit_if test message = if test then Fine value.Unit else Bad message
 
@@ -53,7 +53,7 @@ demanded (Outcome-F.Fine v) = Fine v
 demanded (Outcome-F.Bad m) = Bad m
 demanded Outcome-F.Going = Bad (codes "active")
 
--- the value or message that each function gives
+-- the value or message that each function returns
 unfoldable pub fn_value : Fun → Value → Applied
 fn_value fun.Trim v = Fine (value.Words (trimmed (text_in v)))
 fn_value fun.Lines v = limited_list (pieces_of Newline (text_in v))

@@ -1,7 +1,10 @@
 pub mod formers
 pub mod Texts
+pub mod Names
 pub mod Reading
 pub mod Values
+pub mod Kinds
+pub mod Orders
 pub mod Printed
 pub mod Codes
 pub mod Strings

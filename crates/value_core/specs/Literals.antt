@@ -1,6 +1,6 @@
 -- Literals: which bytes spell a value, by their tokens.
 use Rattle.std.specs.Prelude.{◌≡◌, ℕ, ◌==◌, ◌&&◌, nat_lt, if◌then◌else◌, Bool, true, false, List, [], ◌∷◌, length, map, Option, Some, None, Result, Ok, Err}
-use Rattle.value_core.specs.declared.lexing.Placed.{Placed}
+use Rattle.value_core.specs.declared.lexing.TokenAt.{TokenAt}
 use Rattle.value_core.specs.declared.lexing.Stop.{Stop}
 use Rattle.value_core.specs.declared.lexing.Stop.TheVariants as stop
 use Rattle.value_core.specs.declared.literal.LiteralFault.{LiteralFault}
@@ -14,7 +14,7 @@ use Rattle.value_core.specs.Parts.{text_values}
 use Rattle.value_core.specs.Values.{weight_of}
 
 -- the tokens, without their places
-abbrev pub tokens_in : List Placed → List Token
+abbrev pub tokens_in : List TokenAt → List Token
 tokens_in = map (λ p. p.token)
 
 -- one text more in front
@@ -22,7 +22,7 @@ abbrev pub with_text : List ℕ → Option (List (List ℕ)) → Option (List (L
 with_text t None = None
 with_text t (Some ts) = Some (t ∷ ts)
 
--- a string and the mark behind it: at a comma `more` follows, at a closing bracket nothing may
+-- a string and the mark after it: after a comma comes `more`, after a closing bracket nothing
 abbrev pub item_text : Token → Token → Bool → Option (List (List ℕ)) → Option (List (List ℕ))
 item_text (Words t) (Mark b) is_last more =
     if b == 44 then with_text t more
@@ -46,7 +46,7 @@ abbrev pub is_mark_of : ℕ → Token → Bool
 is_mark_of b (Mark c) = c == b
 is_mark_of b k = false
 
--- the texts of a list behind its opening bracket
+-- the texts of a list after its opening bracket
 abbrev pub list_texts : List Token → Option (List (List ℕ))
 list_texts [] = None
 list_texts (k ∷ []) = if is_mark_of 93 k then Some [] else None
@@ -83,12 +83,12 @@ ended_literal (stop.End p) ks = light (literal_of ks)
 abbrev pub literal_read : List ℕ → Option Value
 literal_read bytes = ended_literal (lexed bytes).stop (tokens_in (lexed bytes).tokens)
 
--- a fault says that there is no value, unless memory ran out
+-- a fault says that there is no value, or is out of memory
 abbrev pub FailsLiteral : LiteralFault → Option Value → Type 0
 FailsLiteral NoMemory read = Unit {0}
 FailsLiteral NotLiteral read = read ≡ None
 
--- what was returned is the value, unless memory ran out
-abbrev pub GivesLiteral : Result Value LiteralFault → Option Value → Type 0
-GivesLiteral (Ok v) read = read ≡ Some v
-GivesLiteral (Err fault) read = FailsLiteral fault read
+-- what was returned is the value, or out of memory
+abbrev pub ReturnsLiteral : Result Value LiteralFault → Option Value → Type 0
+ReturnsLiteral (Ok v) read = read ≡ Some v
+ReturnsLiteral (Err fault) read = FailsLiteral fault read

@@ -9,7 +9,7 @@ use Rattle.value_core.specs.declared.value.Outcome.{Outcome, Outcome-F, fold-Out
 abbrev pub hex_escape : ℕ → List ℕ
 hex_escape b = 92 ∷ 120 ∷ digit_glyph false (b / 16) ∷ digit_glyph false (b % 16) ∷ []
 
--- a byte as it stands in a string: quote and backslash behind a backslash, then `\n`, `\t` and `\r`, other control codes by number, all else as it is
+-- a byte as a string spells it: quote and backslash after a backslash, then `\n`, `\t` and `\r`, other control codes by number, all else as it is
 abbrev pub escape : ℕ → List ℕ
 escape b =
     if b == 34 then codes "\\\""
@@ -20,7 +20,7 @@ escape b =
     else (if nat_lt b 32 || b == 127 then hex_escape b
     else (b ∷ []))))))
 
--- the bytes of a text, each as it stands in a string
+-- the bytes of a text as a string spells them
 abbrev pub escaped : List ℕ → List ℕ
 escaped = flat_map escape
 

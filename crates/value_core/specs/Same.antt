@@ -1,4 +1,4 @@
--- Whether two values are equal, told by their codes.
+-- Whether two values are equal, decided by their codes.
 use Rattle.std.specs.Prelude.{Bool, true, false, ◌&&◌, ◌==◌}
 use Rattle.std.specs.Coded.{Coded}
 use base.Stored.{Gv, gnil, gnum, gcons}

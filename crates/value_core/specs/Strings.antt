@@ -1,4 +1,4 @@
--- What stands between the quotes of a string, byte for byte.
+-- The bytes between the quotes of a string, one after the other.
 use Rattle.std.specs.Prelude.{ℕ, ◌+◌, ◌-◌, ◌*◌, ◌==◌, ◌&&◌, ◌||◌, nat_lt, if◌then◌else◌, Bool, List, [], ◌∷◌, Option, Some, None}
 use Rattle.value_core.specs.declared.strings.Mode.{Mode}
 use Rattle.value_core.specs.declared.strings.Mode.TheVariants.{Plain, Slash, Hex, Digit}
@@ -17,7 +17,7 @@ hex_value b = if nat_lt b 58 then b - 48 else b - 87
 abbrev pub is_control : ℕ → Bool
 is_control c = (nat_lt 0 c && nat_lt c 32) || c == 127
 
--- what a byte does, behind what has begun of an escape: a plain byte, a backslash, `\x`, or `\x` with one digit
+-- what a byte does after what has begun of an escape: nothing, a backslash, `\x`, or `\x` with one digit
 abbrev pub step : Mode → ℕ → Step
 step Plain b =
     if b == 34 then Ends
@@ -44,7 +44,7 @@ abbrev pub later : Option (List ℕ × ℕ) → Option (List ℕ × ℕ)
 later None = None
 later (Some x) = Some (x.0, x.1 + 1)
 
--- what a step comes to, where f reads on
+-- what is read after a step, if f reads the rest
 abbrev pub go_on : Step → (Mode → Option (List ℕ × ℕ)) → Option (List ℕ × ℕ)
 go_on Ends f = Some ([], 1)
 go_on (Adds c) f = with_byte c (f Plain)

@@ -1,4 +1,4 @@
--- Tokens, and what stands between them.
+-- Tokens, and the bytes between them.
 use Rattle.std.specs.Prelude.{◌≡◌, ◌<◌, ◌≤◌, ℕ, zero, suc, ◌+◌, ◌^◌, ◌==◌, ◌&&◌, ◌||◌, not, nat_lt, if◌then◌else◌, Bool, List, [], ◌∷◌, length, drop, take, Option, Some, None, Result, Ok, Err}
 use Rattle.std.specs.List.{prefix_len}
 use Rattle.std.specs.Str.{is_utf8, all_ascii_digits}
@@ -10,6 +10,7 @@ use Rattle.value_core.specs.declared.token.Next.TheVariants.{Found, End}
 use Rattle.value_core.specs.declared.token.TokenFault.{TokenFault}
 use Rattle.value_core.specs.declared.token.TokenFault.TheVariants.{Lex, NoMemory}
 use Rattle.value_core.specs.declared.strings.Mode.TheVariants.{Plain}
+use Rattle.value_core.specs.Names.{is_letter, is_word_byte}
 use Rattle.value_core.specs.Strings.{body_at}
 
 -- space, tab, newline, carriage return
@@ -24,19 +25,11 @@ in_line b = not (b == 10)
 abbrev pub is_mark : ℕ → Bool
 is_mark b = b == 40 || (b == 41 || (b == 91 || (b == 93 || b == 44)))
 
--- `a` to `z`
-abbrev pub is_letter : ℕ → Bool
-is_letter b = nat_lt 96 b && nat_lt b 123
-
--- a letter, a digit, `_` or `-`
-abbrev pub is_word_byte : ℕ → Bool
-is_word_byte b = is_letter b || ((nat_lt 47 b && nat_lt b 58) || (b == 95 || b == 45))
-
 -- the bytes up to a newline or the end
 abbrev pub line : List ℕ → List ℕ
 line bs = take (prefix_len in_line bs) bs
 
--- how many bytes of blank space and comments stand at the front, where the first n are of a comment; a comment that isn't UTF-8 is none
+-- the number of bytes of blank space and comments at the front, if the first n belong to a comment; one that isn't UTF-8 is no comment
 abbrev pub gap : ℕ → List ℕ → ℕ
 gap n [] = 0
 gap zero (b ∷ bs) =
@@ -64,7 +57,7 @@ word_token (b ∷ bs) =
     if is_letter b then Some (if nat_lt 64 (length (b ∷ bs)) then LongName else Name (b ∷ bs))
     else number_token (number_of (b ∷ bs))
 
--- the token of a string that stands for this text, where it is UTF-8
+-- the token of a string that spells this text, if it is UTF-8
 abbrev pub string_token : List ℕ → Option Token
 string_token text =
     if is_utf8 text then Some (if nat_lt 65536 (length text) then LongText else Words text)
@@ -75,7 +68,7 @@ abbrev pub sized : Option Token → ℕ → Option (Token × ℕ)
 sized None n = None
 sized (Some t) n = Some (t, n)
 
--- the token of a string behind its opening quote, where it has an end and no wrong escape or character
+-- the token of a string after its opening quote, if it has an end and no wrong escape or character
 abbrev pub string_at : Option (List ℕ × ℕ) → Option (Token × ℕ)
 string_at None = None
 string_at (Some x) = sized (string_token x.0) (x.1 + 1)
@@ -89,29 +82,29 @@ token_at (b ∷ bs) =
     else (if b == 34 then string_at (body_at Plain bs)
     else None))
 
--- what was found at a place, with the bytes from there on
+-- what was found at an offset, with the bytes from it on
 abbrev pub found_at : ℕ → List ℕ → Option (Token × ℕ) → Result Next ℕ
-found_at place [] found = Ok End
-found_at place rest None = Err place
-found_at place rest (Some x) = Ok (Found x.0 place (place + x.1))
+found_at offset [] found = Ok End
+found_at offset rest None = Err offset
+found_at offset rest (Some x) = Ok (Found x.0 offset (offset + x.1))
 
--- the next token from a place on, or the place where none begins
+-- the next token from an offset on, or the offset at which none begins
 abbrev pub next_at : List ℕ → ℕ → Result Next ℕ
 next_at bytes from =
-    let place = from + gap 0 (drop from bytes) in
-    found_at place (drop place bytes) (token_at (drop place bytes))
+    let offset = from + gap 0 (drop from bytes) in
+    found_at offset (drop offset bytes) (token_at (drop offset bytes))
 
--- a fault is the place where no token begins, unless memory ran out
+-- a fault is the offset at which no token begins, or out of memory
 abbrev pub FailsNext : TokenFault → Result Next ℕ → Type 0
 FailsNext NoMemory next = Unit {0}
-FailsNext (Lex place) next = next ≡ Err place
+FailsNext (Lex offset) next = next ≡ Err offset
 
--- what was returned is the next token, unless memory ran out
-abbrev pub GivesNext : Result Next TokenFault → Result Next ℕ → Type 0
-GivesNext (Ok found) next = next ≡ Ok found
-GivesNext (Err e) next = FailsNext e next
+-- what was returned is the next token, or out of memory
+abbrev pub ReturnsNext : Result Next TokenFault → Result Next ℕ → Type 0
+ReturnsNext (Ok found) next = next ≡ Ok found
+ReturnsNext (Err e) next = FailsNext e next
 
--- a token found stands from a place on, takes a byte at least and ends within n
+-- a token that was found begins at this offset or later, takes a byte at least and ends within n
 abbrev pub EndsWithin : ℕ → ℕ → Next → Type 0
-EndsWithin from n (Found token place end) = (from ≤ place) × (place < end) × (end ≤ n)
+EndsWithin from n (Found token offset end) = (from ≤ offset) × (offset < end) × (end ≤ n)
 EndsWithin from n End = Unit {0}

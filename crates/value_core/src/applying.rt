@@ -1,4 +1,4 @@
-//! What each function gives.
+//! What each function returns.
 ghost use Rattle.std.specs.Prelude.{◌≡◌, ◌+◌, ◌∷◌, ◌++◌, nat_le, if◌then◌else◌, codes, map, IfOk, OnOk};
 ghost use Rattle.std.specs.Fmt.{decimal};
 ghost use Rattle.std.specs.Str.{bytes_eq};
@@ -53,7 +53,7 @@ pub(crate) fn cut(alloc: Global, text: &str, separator: Separator) -> Result<App
     }
 }
 
-/// Adds a line, behind a newline unless it is the first.
+/// Adds a line, after a newline unless it is the first.
 #[tactic(auto, using(crate::proofs::Nuls::no_nul_both))]
 fn add_line(text: &mut String, line: &str, is_first: bool) -> Result<(), NoMemory>
     requires line { HasNoNul line.now }

@@ -5,7 +5,7 @@ ghost use Rattle.value_core.specs.Tokens.{in_line, gap};
 
 use crate::bytes::{decoded, head, is_blank_byte, tail};
 
-/// How many bytes stand before a newline or the end.
+/// The number of bytes before a newline or the end.
 fn line_len(bytes: &[u8]) -> usize
     ensures value { result ≡ prefix_len in_line bytes.now }
     ensures within { result ≤ length bytes.now }
@@ -13,7 +13,7 @@ fn line_len(bytes: &[u8]) -> usize
     bytes.iter().take_while(|b| **b != b'\n').count()
 }
 
-/// How many bytes a blank byte or a comment takes at the front, 0 where there is none.
+/// How many bytes a blank byte or a comment takes at the front, 0 if there is none.
 #[tactic(auto, using(crate::proofs::Scans::gap_comment_at))]
 fn blank_len(bytes: &[u8]) -> usize
     ensures some { gap 0 bytes.now ≡ result + gap 0 (drop result bytes.now) }
@@ -38,10 +38,10 @@ fn blank_len(bytes: &[u8]) -> usize
     }
 }
 
-/// The place past blank space and comments.
+/// The offset after blank space and comments.
 pub(crate) fn past_blank(bytes: &[u8], from: usize) -> usize
     requires { from ≤ length bytes.now }
-    ensures place { result ≡ from + gap 0 (drop from bytes.now) }
+    ensures offset { result ≡ from + gap 0 (drop from bytes.now) }
     ensures within { result ≤ length bytes.now }
 {
     let mut at = from;

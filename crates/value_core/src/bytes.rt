@@ -3,7 +3,7 @@ ghost use Rattle.std.specs.Prelude.{◌≡◌, ◌<◌, ◌≤◌, length, drop,
 ghost use Rattle.std.specs.Str.{is_utf8};
 ghost use Rattle.value_core.specs.Strings.{is_hex, hex_value};
 ghost use Rattle.value_core.specs.Texts.{no_nul};
-ghost use Rattle.value_core.specs.Tokens.{is_blank, is_mark, is_letter, is_word_byte};
+ghost use Rattle.value_core.specs.Tokens.{is_blank, is_mark};
 
 pub(crate) fn is_blank_byte(b: u8) -> bool
     ensures { result ≡ is_blank b }
@@ -15,18 +15,6 @@ pub(crate) fn is_mark_byte(b: u8) -> bool
     ensures { result ≡ is_mark b }
 {
     b == b'(' || b == b')' || b == b'[' || b == b']' || b == b','
-}
-
-pub(crate) fn is_lower(b: u8) -> bool
-    ensures { result ≡ is_letter b }
-{
-    b'a' <= b && b <= b'z'
-}
-
-pub(crate) fn is_in_word(b: u8) -> bool
-    ensures { result ≡ is_word_byte b }
-{
-    is_lower(b) || b'0' <= b && b <= b'9' || b == b'_' || b == b'-'
 }
 
 pub(crate) fn is_hex_digit(b: u8) -> bool
@@ -43,7 +31,7 @@ pub(crate) fn hex_digit_value(b: u8) -> u8
     if b <= b'9' { b - b'0' } else { b - b'a' + 10 }
 }
 
-/// The bytes from a place on.
+/// The bytes from an offset on.
 pub(crate) fn tail(bytes: &[u8], at: usize) -> &[u8]
     requires { at ≤ length bytes.now }
     ensures { result.now ≡ drop at bytes.now }
@@ -60,14 +48,13 @@ pub(crate) fn head(bytes: &[u8], len: usize) -> &[u8]
 }
 
 /// Whether a byte is zero.
-
 pub(crate) fn has_nul(bytes: &[u8]) -> bool
     ensures { result ≡ not (no_nul bytes.now) }
 {
     bytes.contains(&0)
 }
 
-/// The text that the bytes spell, where they are UTF-8.
+/// The text of these bytes, if they are UTF-8.
 pub(crate) fn decoded(bytes: &[u8]) -> Option<&str>
     ensures { MatchOption result (is_utf8 bytes.now ≡ false) (λ s. (is_utf8 bytes.now ≡ true) × (s.now ≡ bytes.now)) }
 {

@@ -1,11 +1,12 @@
 //! Whether two values, kinds or states are equal.
 ghost use Rattle.std.specs.Prelude.{◌≡◌, ◌↔◌, IsTrue, true};
 ghost use Rattle.value_core.specs.Codes.{kind_code, outcome_code, state_code, value_code};
+ghost use Rattle.value_core.specs.Orders.{same_triple};
 ghost use Rattle.value_core.specs.Same.{same};
 ghost use Rattle.value_core.specs.declared.state.State.{State};
 ghost use Rattle.value_core.specs.declared.value.Value.{Value};
 
-use crate::state::State;
+use crate::state::{State, Triple};
 use crate::value::{Kind, Outcome, Value};
 
 impl Value {
@@ -142,6 +143,15 @@ fn are_equal_states(x: &State, y: &State) -> bool
             } => *origin == *origin_2 && *stage == *stage_2,
             _ => false,
         },
+    }
+}
+
+impl Triple {
+    /// Whether the two are equal.
+    pub fn is(&self, other: &Triple) -> bool
+        ensures { result ≡ same_triple self.now other.now }
+    {
+        self.op == other.op && self.key.is(&other.key) && self.value.is(&other.value)
     }
 }
 

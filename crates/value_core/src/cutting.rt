@@ -14,7 +14,7 @@ use crate::text::Text;
 use crate::value::{LIST_LIMIT, Value};
 use std::alloc::Global;
 
-/// What stands between two pieces of a text.
+/// What separates two pieces of a text.
 #[derive(Clone, Copy, Debug, PartialEq, Eq)]
 pub enum Separator {
     Newline,
@@ -31,7 +31,7 @@ fn is_separator(separator: Separator, b: u8) -> bool
     }
 }
 
-/// How many bytes stand before the first separator.
+/// The number of bytes before the first separator.
 fn piece_len(text: &[u8], separator: Separator) -> usize
     ensures value { result ≡ position_or_len (separates separator) text.now }
     ensures within { result ≤ length text.now }
@@ -41,7 +41,7 @@ fn piece_len(text: &[u8], separator: Separator) -> usize
         .count()
 }
 
-/// The text up to the first separator, and what stands behind it.
+/// The text up to the first separator, and the text after it.
 fn cut_first(text: &str, separator: Separator) -> (&str, Option<&str>)
     requires { HasNoNul text.now }
     ensures cut { MatchOption result.1 (slice_split (separates separator) text.now ≡ result.0.now ∷ []) (λ rest. slice_split (separates separator) text.now ≡ result.0.now ∷ slice_split (separates separator) rest.now) }
@@ -69,7 +69,7 @@ fn add_piece(alloc: Global, pieces: &mut ListOf<Value>, piece: &str) -> Result<(
     Ok(())
 }
 
-/// The pieces between separators, or nothing where they are more than a list may have.
+/// The pieces between separators, or nothing if they are more than a list may have.
 pub(crate) fn pieces(
     alloc: Global,
     text: &str,
@@ -93,7 +93,7 @@ pub(crate) fn pieces(
     }
 }
 
-/// How many bytes of white space stand at the front.
+/// The number of bytes of white space at the front.
 fn blank_prefix(text: &[u8]) -> usize
     ensures value { result ≡ prefix_len is_blank text.now }
     ensures within { result ≤ length text.now }
@@ -101,7 +101,7 @@ fn blank_prefix(text: &[u8]) -> usize
     text.iter().take_while(|b| is_blank_byte(**b)).count()
 }
 
-/// How many bytes of white space stand at the end.
+/// The number of bytes of white space at the end.
 fn blank_suffix(text: &[u8]) -> usize
     ensures value { result ≡ suffix_len is_blank text.now }
     ensures within { result ≤ length text.now }

@@ -1,11 +1,7 @@
 //! The functions from one value to another.
-ghost use Rattle.std.specs.Prelude.{◌≡◌, ◌+◌, ◌≤◌, true, Some, IfOk, OnOk};
-ghost use Rattle.value_core.specs.declared.value.Kind.{Kind};
-ghost use Rattle.value_core.specs.declared.value.Value.{Value};
-ghost use Rattle.value_core.specs.declared.function.Fun.{Fun};
-ghost use Rattle.value_core.specs.FunctionKinds.{IsOfKind, kind_given};
+ghost use Rattle.std.specs.Prelude.{◌≡◌, ◌+◌, ◌≤◌, IfOk, OnOk};
+ghost use Rattle.value_core.specs.FunctionKinds.{KeepsKinds};
 ghost use Rattle.value_core.specs.Functions.{fn_value};
-ghost use Rattle.value_core.specs.Values.{fits_kind};
 
 use crate::NoMemory;
 use crate::applying::{
@@ -41,7 +37,7 @@ pub enum Fun {
     Must,
 }
 
-/// What a function gives.
+/// What a function returns.
 #[derive(Drop)]
 pub enum Applied {
     Fine(Value),
@@ -85,7 +81,7 @@ fn value_of(alloc: Global, fun: Fun, v: &Value) -> Result<Applied, NoMemory>
     }
 }
 
-/// Applies a function, in one step. In a value of another kind than the function's it finds the
+/// Applies a function, in one tick. In a value of another kind than the function's it finds the
 /// empty text or list, 0, unit, or an outcome that is going.
 pub fn apply_fn<L: Ledger>(
     alloc: Global,
@@ -102,8 +98,8 @@ pub fn apply_fn<L: Ledger>(
     Ok(applied)
 }
 
-/// Each function that takes a value's kind gives a value of the kind that it gives for it, or
-/// fails.
+/// A function over a value of a kind that it takes fails, or returns a value of the kind that it promises
+/// for it.
 pub fn kind_law()
-    ensures { (f : Fun) (k to : Kind) (v : Value) → kind_given f k ≡ Some to → fits_kind k v ≡ true → IsOfKind to (fn_value f v) }
+    ensures { KeepsKinds }
 {}

@@ -7,17 +7,17 @@ use crate::list_of::ListOf;
 use crate::token::{Next, Token, TokenFault, next_token};
 use std::alloc::{AllocError, Global};
 
-/// A token, and the place of its first byte, counted from 0.
+/// A token, and the offset of its first byte, counted from 0.
 #[derive(Debug, Drop)]
-pub struct Placed {
+pub struct TokenAt {
     pub token: Token,
-    pub place: usize,
+    pub offset: usize,
 }
 
-/// Where the tokens stop.
+/// How the tokens stop.
 #[derive(Clone, Copy, Debug, PartialEq, Eq)]
 pub enum Stop {
-    /// At a byte where no token begins.
+    /// At a byte that begins no token.
     Lex(usize),
     /// At the end of the bytes, whose number this is.
     End(usize),
@@ -26,11 +26,11 @@ pub enum Stop {
 /// The tokens up to where they stop.
 #[derive(Debug, Drop)]
 pub struct Tokens {
-    pub tokens: ListOf<Placed>,
+    pub tokens: ListOf<TokenAt>,
     pub stop: Stop,
 }
 
-/// The tokens of the bytes, up to the first place where none begins.
+/// The tokens of the bytes, up to the first offset at which none begins.
 pub fn tokens_of(alloc: Global, bytes: &[u8]) -> Result<Tokens, NoMemory>
     ensures { IfOk result (λ t. t ≡ lexed bytes.now) }
 {
@@ -40,8 +40,8 @@ pub fn tokens_of(alloc: Global, bytes: &[u8]) -> Result<Tokens, NoMemory>
         match next_token(alloc, bytes, from) {
             Err(fault) => match fault {
                 TokenFault::NoMemory => return Err(AllocError),
-                TokenFault::Lex(place) => {
-                    let stop = Stop::Lex(place);
+                TokenFault::Lex(offset) => {
+                    let stop = Stop::Lex(offset);
                     return Ok(Tokens { tokens, stop });
                 }
             },
@@ -50,8 +50,8 @@ pub fn tokens_of(alloc: Global, bytes: &[u8]) -> Result<Tokens, NoMemory>
                     let stop = Stop::End(bytes.len());
                     return Ok(Tokens { tokens, stop });
                 }
-                Next::Found { token, place, end } => {
-                    tokens.push(Placed { token, place })?;
+                Next::Found { token, offset, end } => {
+                    tokens.push(TokenAt { token, offset })?;
                     from = end;
                 }
             },

@@ -1,7 +1,7 @@
-//! Values, states and tokens: what the crates above speak of.
+//! Values, states and tokens, the base of all crates above.
 //!
 //! `value`, `text`, `list_of` and `state` have the types, `comparing`, `copying`, `kinds` and
-//! `weighing` what is asked of a value, `printing` the printed forms, `token`, `strings`,
+//! `weighing` what is asked of a value, `names` the form of names, `printing` the printed forms, `token`, `strings`,
 //! `numerals`, `blanks` and `lexing` the tokens of bytes, `literal` the values that bytes spell,
 //! `function`, `applying`, `parts` and `cutting` the functions, `steps` a counter for proofs about
 //! work.
@@ -16,12 +16,11 @@ mod comparing;
 mod copying;
 mod cutting;
 mod function;
-#[cfg(test)]
-mod function_tests;
 mod kinds;
 mod lexing;
 mod list_of;
 mod literal;
+mod names;
 mod numerals;
 mod order;
 mod parts;
@@ -29,8 +28,6 @@ mod printing;
 mod state;
 mod steps;
 mod strings;
-#[cfg(test)]
-mod tests;
 mod text;
 mod token;
 mod value;
@@ -38,10 +35,11 @@ mod weighing;
 
 pub use comparing::same_law;
 pub use function::{Applied, Fun, apply_fn, kind_law};
-pub use kinds::is_kind;
-pub use lexing::{Placed, Stop, Tokens, tokens_of};
+pub use kinds::{is_kind, literal_kind};
+pub use lexing::{Stop, TokenAt, Tokens, tokens_of};
 pub use list_of::ListOf;
 pub use literal::{LiteralFault, literal_in, read_literal};
+pub use names::{is_name, is_text};
 pub use printing::{text_of, write_text, write_value};
 pub use state::{Published, Stage, State, Triple};
 pub use steps::Steps;
@@ -51,5 +49,5 @@ pub use token::{NAME_LIMIT, Next, Token, TokenFault, next_token};
 pub use value::{Kind, LIST_LIMIT, Outcome, Value};
 pub use weighing::{WEIGHT_LIMIT, outweighs, weight};
 
-/// Memory is wanting: the error of each call that takes memory and has no other.
+/// Out of memory: the error of each call that allocates and has no other.
 pub type NoMemory = AllocError;

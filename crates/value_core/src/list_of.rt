@@ -32,7 +32,7 @@ impl<T> ListOf<T> {
         }
     }
 
-    /// The list of a `Vec`'s items. Takes no memory.
+    /// The list of a `Vec`'s items. Allocates nothing.
     pub fn from_vec(items: Vec<T>) -> ListOf<T>
         ensures { result ≡ items.items }
     {
@@ -60,7 +60,7 @@ impl<T> ListOf<T> {
         self.items.pop()
     }
 
-    /// Hands out the items, in order. Takes no memory.
+    /// Hands out the items, in order. Allocates nothing.
     pub fn into_vec(self) -> Vec<T>
         ensures { result.items ≡ self }
     {
@@ -70,7 +70,7 @@ impl<T> ListOf<T> {
 }
 
 impl<T: Drop> ListOf<T> {
-    /// Adds an item at the end; where memory is wanting it is dropped.
+    /// Adds an item at the end; out of memory it is dropped.
     pub fn push(&mut self, item: T) -> Result<(), NoMemory>
         ensures ok { OnOk result (self.new ≡ self.old ++ item ∷ []) }
         ensures err { OnErr result (self.new ≡ self.old) }
@@ -79,7 +79,7 @@ impl<T: Drop> ListOf<T> {
         Ok(())
     }
 
-    /// Moves the items of `more` to the end; where memory is wanting they are dropped.
+    /// Moves the items of `more` to the end; out of memory they are dropped.
     pub fn append(&mut self, more: ListOf<T>) -> Result<(), NoMemory>
         ensures ok { OnOk result (self.new ≡ self.old ++ more) }
         ensures err { OnErr result (self.new ≡ self.old) }

@@ -1,18 +1,18 @@
 //! Literals, read from their bytes.
 ghost use Rattle.std.specs.Prelude.{◌≡◌, IfOk};
 ghost use Rattle.std.specs.Option.{option_map};
-ghost use Rattle.value_core.specs.Literals.{GivesLiteral, is_mark_of, item_texts, tokens_in, list_literal, list_texts, literal_of, literal_read, single_literal};
+ghost use Rattle.value_core.specs.Literals.{ReturnsLiteral, is_mark_of, item_texts, tokens_in, list_literal, list_texts, literal_of, literal_read, single_literal};
 ghost use Rattle.value_core.specs.Parts.{text_values};
 
 use crate::NoMemory;
-use crate::lexing::{Placed, Stop, Tokens, tokens_of};
+use crate::lexing::{Stop, TokenAt, Tokens, tokens_of};
 use crate::list_of::ListOf;
 use crate::token::Token;
 use crate::value::{LIST_LIMIT, Value};
 use crate::weighing::{WEIGHT_LIMIT, outweighs};
 use std::alloc::{AllocError, Global};
 
-/// Why bytes are no literal.
+/// Why bytes aren't a literal.
 #[derive(Debug, Drop)]
 pub enum LiteralFault {
     /// They aren't one string, one number or one list of strings within the limits.
@@ -50,7 +50,7 @@ fn take_single(alloc: Global, token: &Token) -> Result<Option<Value>, NoMemory>
 }
 
 /// The texts of strings with a comma between each two, up to a closing bracket at the end.
-fn take_items(alloc: Global, tokens: &[Placed]) -> Result<Option<ListOf<Value>>, NoMemory>
+fn take_items(alloc: Global, tokens: &[TokenAt]) -> Result<Option<ListOf<Value>>, NoMemory>
     ensures { IfOk result (λ o. o ≡ option_map text_values (item_texts (tokens_in tokens.now))) }
 {
     let mut items = ListOf::new(alloc);
@@ -71,8 +71,8 @@ fn take_items(alloc: Global, tokens: &[Placed]) -> Result<Option<ListOf<Value>>,
     }
 }
 
-/// The texts of a list behind its opening bracket.
-fn take_list_items(alloc: Global, tokens: &[Placed]) -> Result<Option<ListOf<Value>>, NoMemory>
+/// The texts of a list after its opening bracket.
+fn take_list_items(alloc: Global, tokens: &[TokenAt]) -> Result<Option<ListOf<Value>>, NoMemory>
     ensures { IfOk result (λ o. o ≡ option_map text_values (list_texts (tokens_in tokens.now))) }
 {
     match tokens {
@@ -89,8 +89,8 @@ fn take_list_items(alloc: Global, tokens: &[Placed]) -> Result<Option<ListOf<Val
     }
 }
 
-/// The list behind its opening bracket.
-fn take_list(alloc: Global, tokens: &[Placed]) -> Result<Option<Value>, NoMemory>
+/// The list after its opening bracket.
+fn take_list(alloc: Global, tokens: &[TokenAt]) -> Result<Option<Value>, NoMemory>
     ensures { IfOk result (λ o. o ≡ list_literal (list_texts (tokens_in tokens.now))) }
 {
     match take_list_items(alloc, tokens)? {
@@ -108,7 +108,7 @@ fn take_list(alloc: Global, tokens: &[Placed]) -> Result<Option<Value>, NoMemory
 
 /// The value that just these tokens spell: one string, one number, or one list of at most 256
 /// strings.
-pub fn literal_in(alloc: Global, tokens: &[Placed]) -> Result<Option<Value>, NoMemory>
+pub fn literal_in(alloc: Global, tokens: &[TokenAt]) -> Result<Option<Value>, NoMemory>
     ensures { IfOk result (λ o. o ≡ literal_of (tokens_in tokens.now)) }
 {
     match tokens {
@@ -125,9 +125,9 @@ pub fn literal_in(alloc: Global, tokens: &[Placed]) -> Result<Option<Value>, NoM
 }
 
 /// Reads a value from its bytes: one string, one number, or one list of strings. Blank space and
-/// comments may stand around its tokens.
+/// comments may surround its tokens.
 pub fn read_literal(alloc: Global, bytes: &[u8]) -> Result<Value, LiteralFault>
-    ensures { GivesLiteral result (literal_read bytes.now) }
+    ensures { ReturnsLiteral result (literal_read bytes.now) }
 {
     let Tokens { tokens, stop } = tokens_of(alloc, bytes)?;
     if let Stop::Lex(_) = stop {

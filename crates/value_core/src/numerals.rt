@@ -14,7 +14,7 @@ fn is_digits(word: &[u8]) -> bool
     true
 }
 
-/// The number that the bytes spell, where they are a number token and nothing else.
+/// The number that the bytes spell, if they are a number token and nothing else.
 pub(crate) fn number(word: &[u8]) -> Option<u64>
     ensures { result ≡ number_of word.now }
 {

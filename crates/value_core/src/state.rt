@@ -18,7 +18,7 @@ pub enum Stage {
     Running,
 }
 
-/// What a term comes to. The origin is the number of the node in whose term the state arose,
+/// What a term evaluates to. The origin is the number of the node in whose term the state arose,
 /// counted from 0 in file order.
 #[derive(Drop)]
 pub enum State {
@@ -35,7 +35,7 @@ pub struct Triple {
     pub value: Text,
 }
 
-/// The nodes' names and states, in the same order, as they stand at a version.
+/// The nodes' names and states at a version, in the same order.
 #[derive(Drop)]
 pub struct Published {
     pub version: u64,

@@ -1,18 +1,18 @@
-//! What stands between the quotes of a string.
+//! The bytes between the quotes of a string.
 ghost use Rattle.std.specs.Prelude.{◌≡◌, ◌++◌, ◌∷◌, map, ◌+◌, ◌≤◌, List, ℕ, length, IfOk, IfSome, MatchOption, Some, None, true};
 ghost use Rattle.std.specs.List.{list_all, flat_map};
 ghost use Rattle.value_core.specs.declared.strings.Mode.TheVariants.{Plain, Slash, Digit};
-ghost use Rattle.value_core.specs.Pieces.{Piece, spelled, meant, is_right, BeginsString};
+ghost use Rattle.value_core.specs.Pieces.{ReadsAllPieces, ReadsNoOther};
 ghost use Rattle.value_core.specs.Strings.{step, body_at};
 
 use crate::NoMemory;
 use crate::bytes::{hex_digit_value, is_hex_digit};
 use std::alloc::Global;
 
-/// What stands before a byte inside a string.
+/// What was read of an escape before a byte inside a string.
 #[derive(Clone, Copy, Debug, PartialEq, Eq)]
 pub enum Mode {
-    /// Nothing that has begun.
+    /// No escape has begun.
     Plain,
     /// A backslash.
     Slash,
@@ -31,7 +31,7 @@ pub enum Step {
     Adds(u8),
     /// Begins an escape, or goes on with one.
     Turns(Mode),
-    /// Can't stand there.
+    /// Is wrong there.
     Wrong,
 }
 
@@ -98,7 +98,8 @@ fn step_at(mode: Mode, b: u8) -> Step
     }
 }
 
-/// The text of a string whose bytes begin here, behind the opening quote, and how many bytes it takes with the closing one.
+/// The text of a string, read from the byte after its opening quote, and how many bytes it takes with the
+/// closing one.
 pub(crate) fn take_body(alloc: Global, bytes: &[u8]) -> Result<Option<(Vec<u8>, usize)>, NoMemory>
     ensures text { IfOk result (λ o. MatchOption o (body_at Plain bytes.now ≡ None) (λ x. body_at Plain bytes.now ≡ Some (x.0.items, x.1))) }
     ensures within { IfOk result (λ o. IfSome o (λ x. x.1 ≤ length bytes.now)) }
@@ -121,8 +122,8 @@ pub(crate) fn take_body(alloc: Global, bytes: &[u8]) -> Result<Option<(Vec<u8>, 
     Ok(None)
 }
 
-/// A string is read just as it is spelled: by pieces, each a byte as it is or an escape.
+/// A string is read exactly as it is spelled: by pieces, each a byte as it is or an escape.
 pub fn string_law()
-    ensures found { (bytes text : List ℕ) (n : ℕ) → body_at Plain bytes ≡ Some (text, n) → BeginsString bytes text }
-    ensures all { (ps : List Piece) (rest : List ℕ) → list_all is_right ps ≡ true → body_at Plain (flat_map spelled ps ++ 34 ∷ rest) ≡ Some (map meant ps, length (flat_map spelled ps) + 1) }
+    ensures found { ReadsNoOther }
+    ensures all { ReadsAllPieces }
 {}

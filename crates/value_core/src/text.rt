@@ -37,7 +37,7 @@ fn without_newline(text: &str) -> &str
     }
 }
 
-/// Why bytes are no text.
+/// Why bytes aren't a text.
 #[derive(Debug, Drop)]
 pub enum TextFault {
     /// More bytes than `TEXT_LIMIT`, with their number.
@@ -58,7 +58,7 @@ impl From<AllocError> for TextFault {
 }
 
 impl Text {
-    ghost use Rattle.value_core.specs.Reading.{text_read, GivesText};
+    ghost use Rattle.value_core.specs.Reading.{text_read, ReturnsText};
 
     /// The empty text.
     pub fn new(alloc: Global) -> Text
@@ -78,7 +78,7 @@ impl Text {
         Ok(Text { text })
     }
 
-    /// The text of a `String`. Takes no memory.
+    /// The text of a `String`. Allocates nothing.
     pub fn from_string(text: String) -> Text
         requires { HasNoNul (string_bytes text) }
         ensures { result ≡ string_bytes text }
@@ -88,7 +88,7 @@ impl Text {
 
     /// Reads bytes from outside, such as a file, where a final newline belongs to no text.
     pub fn as_text(alloc: Global, bytes: &[u8]) -> Result<Text, TextFault>
-        ensures { GivesText result (text_read bytes.now) }
+        ensures { ReturnsText result (text_read bytes.now) }
     {
         if TEXT_LIMIT < bytes.len() {
             return Err(TextFault::TooLarge(bytes.len()));

@@ -3,13 +3,15 @@ ghost use Rattle.std.specs.Prelude.{◌≡◌, ◌+◌, ◌<◌, ◌≤◌, leng
 ghost use Rattle.std.specs.List.{prefix_len, list_all};
 ghost use Rattle.std.specs.Str.{is_utf8};
 ghost use Rattle.value_core.specs.declared.strings.Mode.TheVariants.{Plain};
+ghost use Rattle.value_core.specs.Names.{is_word_byte};
 ghost use Rattle.value_core.specs.Strings.{body_at};
 ghost use Rattle.value_core.specs.Texts.{no_nul};
-ghost use Rattle.value_core.specs.Tokens.{is_word_byte, word_token, string_at, token_at, next_at, GivesNext, EndsWithin};
+ghost use Rattle.value_core.specs.Tokens.{word_token, string_at, token_at, next_at, ReturnsNext, EndsWithin};
 
 use crate::NoMemory;
 use crate::blanks::past_blank;
-use crate::bytes::{head, is_in_word, is_lower, is_mark_byte, tail};
+use crate::bytes::{head, is_mark_byte, tail};
+use crate::names::{is_in_word, is_lower};
 use crate::numerals::number;
 use crate::strings::take_body;
 use crate::text::{TEXT_LIMIT, Text};
@@ -23,7 +25,7 @@ pub const NAME_LIMIT: usize = 64;
 pub enum Token {
     Name(Text),
     Number(u64),
-    /// A string, by the text that it stands for.
+    /// A string, by the text that it spells.
     Words(Text),
     /// One of the bytes `(`, `)`, `[`, `]` and `,`.
     Mark(u8),
@@ -36,10 +38,10 @@ pub enum Token {
 /// What comes next.
 #[derive(Debug, Drop)]
 pub enum Next {
-    /// A token, the place of its first byte and the place behind its last.
+    /// A token, the offset of its first byte and the offset after its last.
     Found {
         token: Token,
-        place: usize,
+        offset: usize,
         end: usize,
     },
     /// Only blank space and comments follow.
@@ -49,7 +51,7 @@ pub enum Next {
 /// Why there is no next token.
 #[derive(Clone, Copy, Debug, PartialEq, Eq)]
 pub enum TokenFault {
-    /// No token or comment begins at this place.
+    /// No token or comment begins at this offset.
     Lex(usize),
     NoMemory,
 }
@@ -64,7 +66,7 @@ impl From<AllocError> for TokenFault {
     }
 }
 
-/// The text of these bytes, where they are UTF-8.
+/// The text of these bytes, if they are UTF-8.
 fn decoded_text(bytes: Vec<u8>) -> Option<Text>
     requires { no_nul bytes.items ≡ true }
     ensures { MatchOption result (is_utf8 bytes.items ≡ false) (λ t. (t ≡ bytes.items) × (is_utf8 bytes.items ≡ true)) }
@@ -95,7 +97,7 @@ fn take_string(alloc: Global, bytes: &[u8]) -> Result<Option<(Token, usize)>, No
     Ok(Some((token, len + 1)))
 }
 
-/// How many bytes of a word stand at the front.
+/// How many bytes of a word are at the front.
 fn word_len(bytes: &[u8]) -> usize
     ensures value { result ≡ prefix_len is_word_byte bytes.now }
     ensures within { result ≤ length bytes.now }
@@ -150,23 +152,23 @@ fn take_token(alloc: Global, bytes: &[u8]) -> Result<Option<(Token, usize)>, NoM
     Ok(None)
 }
 
-/// The next token from a place on; blank space and comments are passed over.
+/// The next token from an offset on; blank space and comments are passed over.
 pub fn next_token(alloc: Global, bytes: &[u8], from: usize) -> Result<Next, TokenFault>
     requires { from ≤ length bytes.now }
-    ensures next { GivesNext result (next_at bytes.now from) }
+    ensures next { ReturnsNext result (next_at bytes.now from) }
     ensures within { IfOk result (λ n. EndsWithin from (length bytes.now) n) }
 {
-    let place = past_blank(bytes, from);
-    let rest = tail(bytes, place);
+    let offset = past_blank(bytes, from);
+    let rest = tail(bytes, offset);
     if rest.is_empty() {
         return Ok(Next::End);
     }
     match take_token(alloc, rest)? {
         Some((token, len)) => Ok(Next::Found {
             token,
-            place,
-            end: place + len,
+            offset,
+            end: offset + len,
         }),
-        None => Err(TokenFault::Lex(place)),
+        None => Err(TokenFault::Lex(offset)),
     }
 }

@@ -6,16 +6,16 @@ use sqlite_items::Boxed;
 /// The greatest number of items of a list in a value of a pipeline.
 pub const LIST_LIMIT: usize = 256;
 
-/// What a term comes to, an input holds and an operation is given.
+/// What a term evaluates to, what an input holds, and what an operation takes.
 #[cycle(value)]
 #[derive(Drop)]
 pub enum Value {
-    /// At most `TEXT_LIMIT` bytes, where it is a value of a pipeline.
+    /// At most `TEXT_LIMIT` bytes in a value of a pipeline.
     Words(Text),
     Num(u64),
     Unit,
     Pair(Boxed<Value>, Boxed<Value>),
-    /// At most `LIST_LIMIT` items, where it is a value of a pipeline.
+    /// At most `LIST_LIMIT` items in a value of a pipeline.
     List(ListOf<Value>),
     Out(Outcome),
 }
@@ -38,6 +38,6 @@ pub enum Kind {
     Pair(Boxed<Kind>, Boxed<Kind>),
     /// Of items of one kind.
     List(Boxed<Kind>),
-    /// Of a value of this kind, where it is fine.
+    /// Of a value of this kind, if it is fine.
     Out(Boxed<Kind>),
 }

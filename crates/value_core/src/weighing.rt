@@ -41,7 +41,7 @@ fn weight_of_outcome(o: &Outcome) -> u64
     }
 }
 
-/// The weight, or the greatest number where the weight is greater.
+/// The weight, or the greatest number if the weight is greater.
 #[cycle(capping)]
 fn capped_weight(v: &Value) -> u64
     ensures { result ≡ min (weight_of v.now) (2 ^ 64 - 1) }

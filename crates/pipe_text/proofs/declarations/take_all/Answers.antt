@@ -1,5 +1,5 @@
 use Rattle.std.proofs.Common.{ℕ, List, [], ◌∷◌, ◌++◌, ◌+◌, Result, sym, ap, ◌∙◌, subst}
-use Rattle.value_core.specs.declared.lexing.Placed.{Placed}
+use Rattle.value_core.specs.declared.lexing.TokenAt.{TokenAt}
 use Rattle.pipe_text.specs.declared.declaration.Declaration.{Declaration}
 use Rattle.pipe_text.specs.declared.fault.Fault.{Fault}
 use Rattle.pipe_text.specs.Readers.{Fails}
@@ -17,7 +17,7 @@ pub returns-in-Err : goal.returns-in-Err
 returns-in-Err c =
     let before = c.declarations.invariant.before in
     let seen = seen_is c.args.version before c.declarations.it c.declarations.invariant.knows in
-    subst (λ (r : Result (List Declaration × List Placed) Fault). Fails c.in-Err.fault (made c.args.version r)) c.declarations.invariant.same
+    subst (λ (r : Result (List Declaration × List TokenAt) Fault). Fails c.in-Err.fault (made c.args.version r)) c.declarations.invariant.same
     (all_err file_bounds c.args.version before c.args.stop c.declarations.tokens.now c.in-Err.fault c.declarations-test.ensures
     (subst (λ (x : Seen). Fails c.in-Err.fault (decl_at file_bounds x c.args.stop c.declarations.tokens.now)) seen c.in-Err.ensures.gives))
 
@@ -33,7 +33,7 @@ declarations-preserved c =
     }
 
 pub returns-in-Lex : goal.returns-in-Lex
-returns-in-Lex c = sym (ap (made c.args.version) c.declarations.invariant.same) ∙ rw c.in-Lex.is (all_lex file_bounds c.args.version c.declarations.invariant.before c.in-Lex.place c.declarations.tokens.now c.declarations-test.ensures)
+returns-in-Lex c = sym (ap (made c.args.version) c.declarations.invariant.same) ∙ rw c.in-Lex.is (all_lex file_bounds c.args.version c.declarations.invariant.before c.in-Lex.offset c.declarations.tokens.now c.declarations-test.ensures)
 
 pub returns-in-End : goal.returns-in-End
 returns-in-End c =
