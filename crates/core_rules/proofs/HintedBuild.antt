@@ -19,7 +19,7 @@ use Rattle.op_keys.specs.Orders.{is_short, order_fits}
 use Rattle.term_core.specs.declared.entries.Entry.{Entry}
 use Rattle.term_core.specs.declared.program.Program.{Program}
 use Rattle.term_core.specs.declared.program.Term.TheVariants as term
-use Rattle.term_core.specs.Evaluation.{Given, entry_state, eval, given_of, term_step}
+use Rattle.term_core.specs.Evaluation.{Context, entry_state, eval, context_of, term_step}
 use Rattle.term_core.specs.Evaluation as E
 use Rattle.term_core.specs.Fresh.{FreshRun}
 use Rattle.term_core.specs.Fresh as nodes
@@ -125,8 +125,8 @@ module _ (key : Key) (w : World) where
   abbrev k : List ℕ
   k = key.0
 
-  abbrev given : Given
-  given = given_of pipeline 0 (value.Words k ∷ []) [] w
+  abbrev given : Context
+  given = context_of pipeline 0 (value.Words k ∷ []) [] w
 
   abbrev node_run : Run
   node_run = record { state = entry_state 0 value.Words (entry_of w (building k)); wants = building k ∷ []; ticks = 2 }

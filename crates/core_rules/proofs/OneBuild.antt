@@ -22,7 +22,7 @@ use Rattle.term_core.specs.declared.entries.Entry.{Entry}
 use Rattle.term_core.specs.declared.program.Program.{Program}
 use Rattle.term_core.specs.declared.program.Term.{Term, Term-F}
 use Rattle.term_core.specs.declared.program.Term.TheVariants as term
-use Rattle.term_core.specs.Evaluation.{Given, given_of, Meaning, entry_state, term_step, eval}
+use Rattle.term_core.specs.Evaluation.{Context, context_of, Meaning, entry_state, term_step, eval}
 use Rattle.term_core.specs.Evaluation as E
 use Rattle.term_core.specs.Fresh.{FreshRun}
 use Rattle.term_core.specs.Fresh as nodes
@@ -143,8 +143,8 @@ module _ (expiry : Expiry) (latched : Bool) where
     abbrev k : List ℕ
     k = key.0
 
-    abbrev given : Given
-    given = given_of (pipeline_with expiry latched) 0 (value.Words k ∷ []) [] w
+    abbrev given : Context
+    given = context_of (pipeline_with expiry latched) 0 (value.Words k ∷ []) [] w
 
     abbrev node_run : Run
     node_run = record { state = entry_state 0 value.Words (entry_of w (testing k)); wants = testing k ∷ []; ticks = 4 }

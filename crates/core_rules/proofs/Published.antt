@@ -18,7 +18,7 @@ use Rattle.core_rules.specs.Replies.{changed_from}
 use Rattle.core_rules.specs.Settling.{wanted}
 use Rattle.core_rules.specs.Steps.{Accepted, Answer, at_time, step}
 use Rattle.core_rules.specs.declared.events.Event.{Event}
-use Rattle.term_core.specs.Evaluation.{eval, given_of}
+use Rattle.term_core.specs.Evaluation.{eval, context_of}
 use Rattle.term_core.specs.Fresh.{fresh, fresh_from}
 use Rattle.term_core.specs.Runs.{Run}
 use Rattle.term_core.specs.World.{World}
@@ -58,7 +58,7 @@ changed_makes front (a ∷ as') (b ∷ bs) n e l = elim (same state_code a b) as
 states_length : (program : Program) (inputs : List Value) (w : World) (at : ℕ) (earlier : List State) (ds : List NodeDecl) → length (fresh_from program inputs w at earlier ds).states ≡ length ds
 states_length program inputs w at earlier [] = refl
 states_length program inputs w at earlier (d ∷ ds) =
-    let r : Run = eval (given_of program at inputs earlier w) d.term [] in
+    let r : Run = eval (context_of program at inputs earlier w) d.term [] in
     let h = states_length program inputs w (at + 1) (earlier ++ r.state ∷ []) ds in
     omega (arith, h)
 

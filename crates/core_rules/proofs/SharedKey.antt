@@ -19,7 +19,7 @@ use Rattle.term_core.specs.declared.entries.Entry.{Entry}
 use Rattle.term_core.specs.declared.program.Program.{Program}
 use Rattle.term_core.specs.declared.program.Term.{Term}
 use Rattle.term_core.specs.declared.program.Term.TheVariants as term
-use Rattle.term_core.specs.Evaluation.{Given, Meaning, entry_state, eval, given_of}
+use Rattle.term_core.specs.Evaluation.{Context, Meaning, entry_state, eval, context_of}
 use Rattle.term_core.specs.Evaluation as E
 use Rattle.term_core.specs.Fresh.{FreshRun}
 use Rattle.term_core.specs.Fresh as nodes
@@ -115,8 +115,8 @@ abbrev alone : List ℕ → Run
 alone v = visited (stated (Fine (value.Words v)))
 
 module _ (node : ℕ) (inputs : List Value) (earlier : List State) (w : World) where
-  abbrev given : Given
-  given = given_of pipeline node inputs earlier w
+  abbrev given : Context
+  given = context_of pipeline node inputs earlier w
 
   abbrev put_run : List ℕ → Run
   put_run v = record { state = entry_state node (λ t. value.Unit) (entry_of w (setting v)); wants = setting v ∷ []; ticks = 3 }

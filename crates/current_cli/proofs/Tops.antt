@@ -6,7 +6,7 @@ use Rattle.std.specs.declared.option.Option.{Option}
 use Rattle.std.specs.declared.option.Option.TheVariants.{None, Some}
 use Rattle.std.proofs.lemmas.List.{length-take, take_all}
 use Rattle.term_core.specs.declared.program.Program.{Program}
-use Rattle.io_ends.specs.Told.{content_now, IsReadOf}
+use Rattle.io_ends.specs.Known.{content_now, IsReadOf}
 use Rattle.io_ends.specs.declared.ends.FileRead.TheVariants.{Found, Missing}
 use Rattle.pipe_text.specs.Standing.{StandsFor}
 use Rattle.current_cli.specs.declared.session.SessionEnd.{SessionEnd}

@@ -2,7 +2,7 @@
 use Rattle.std.specs.Prelude.{◌≡◌, ℕ, List, [], ◌∷◌, ◌⊎◌, codes}
 use Rattle.std.specs.declared.option.Option.{Option}
 use Rattle.std.specs.declared.option.Option.TheVariants.{None, Some}
-use Rattle.io_ends.specs.Told.{content_now}
+use Rattle.io_ends.specs.Known.{content_now}
 use Rattle.current_cli.specs.declared.session.SessionEnd.{SessionEnd}
 use Rattle.current_cli.specs.declared.session.SessionEnd.TheVariants.{Quit, ReadFault, WriteFault, NoMemory}
 use Rattle.current_cli.specs.Marks.{Mark, Print, Did, Stopped}

@@ -10,7 +10,7 @@ use Rattle.std.proofs.lemmas.Slice.Eq.{bytes_eq-Decides}
 use Rattle.std.proofs.lemmas.Iterator.Adapters.{position_from-zero}
 use Rattle.io_ends.specs.declared.memory.held.HeldFile.{HeldFile}
 use Rattle.io_ends.specs.Memory.{contents_of, contents_at}
-use Rattle.io_ends.specs.Told.{content_now, contents_later}
+use Rattle.io_ends.specs.Known.{content_now, contents_later}
 
 abbrev pub has_path : List ℕ → HeldFile → Bool
 has_path path file = bytes_eq path (string_bytes file.path)

@@ -1,4 +1,6 @@
 pub mod Causes
+pub mod Connections
 pub mod Lines
+pub mod Listening
 pub mod Memory
-pub mod Told
+pub mod Known

@@ -1,6 +1,7 @@
-//! Ends through which a program meets the outside: a source, a sink, files and a clock.
+//! Ends through which a program meets the outside: sources, sinks, files, clocks and listeners.
 #![tactic(auto)]
 
+mod connections;
 mod ends;
 mod lines;
 mod memory;
@@ -8,11 +9,12 @@ mod piece;
 mod real;
 mod writing;
 
+pub use connections::{Accepted, Duplex, Listener};
 pub use ends::{Clock, Failed, FileFault, FileRead, Files, Sink, Source};
 pub use lines::{Line, LineFault, LineReader};
 pub use memory::{
-    ClockInMemory, FilesInMemory, HeldFile, SinkInMemory, SourceInMemory, SteadyFiles, SteadySink,
-    SteadySource,
+    ClockInMemory, ConnInMemory, FilesInMemory, HeldFile, ListenerInMemory, SinkInMemory,
+    SourceInMemory, SteadyFiles, SteadySink, SteadySource,
 };
 pub use real::{Reading, RealClock, RealFiles, Writing};
 pub use writing::write_all;

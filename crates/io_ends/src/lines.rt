@@ -1,9 +1,8 @@
 //! Lines of a source.
 
-ghost use Rattle.std.specs.Prelude.{◌≡◌, ◌≢◌, ℕ, ◌+◌, ◌≤◌, ◌<◌, List, [], length, OnOk, IfOk, IfSome, IfNone, IsErrOf, slice_index, Ok};
-ghost use Rattle.std.specs.Io.KnownBytes.{prepend_known};
-ghost use Rattle.io_ends.specs.Causes.{Rose, HasCause};
-ghost use Rattle.io_ends.specs.Lines.{NextLine, DropsLine};
+ghost use Rattle.std.specs.Prelude.{◌≡◌, ◌+◌, ◌≤◌, ◌<◌, [], length, IfSome, IfNone};
+ghost use Rattle.io_ends.specs.Causes.{HasCause};
+ghost use Rattle.io_ends.specs.Lines.{ReadsLine, Uses, DropsRest, HasLineCause, IsFirstNewline, HasNoNewline};
 ghost use Rattle.io_ends.specs.declared.lines.LineFault.TheVariants.{NoMemory, Failed as ReadFailed};
 
 use crate::ends::{Failed, Source};
@@ -21,7 +20,7 @@ pub enum Line {
     Whole(Vec<u8>),
     /// A line of more than 131,072 bytes; it was read and dropped.
     TooLong,
-    /// The source has ended before a byte of a line.
+    /// The source ended before a byte of a line.
     End,
 }
 
@@ -30,7 +29,7 @@ pub enum Line {
 pub enum LineFault {
     /// A read of the source failed.
     Failed,
-    /// Memory was wanting for the line.
+    /// Out of memory for the line.
     NoMemory,
 }
 
@@ -52,18 +51,18 @@ impl From<Failed> for LineFault {
 
 /// Where the first newline is.
 fn newline_in(bytes: &[u8]) -> Option<usize>
-    ensures found { IfSome result (λ at. (at < length bytes.now) × (slice_index bytes.now at ≡ 10)
-        × ((k : ℕ) → k < at → slice_index bytes.now k ≢ 10)) }
-    ensures none { IfNone result ((k : ℕ) → k < length bytes.now → slice_index bytes.now k ≢ 10) }
+    ensures found { IfSome result (IsFirstNewline bytes.now) }
+    ensures none { IfNone result (HasNoNewline (length bytes.now) bytes.now) }
 {
     bytes.iter().position(|b| *b == b'\n')
 }
 
-/// Drops the piece in hand, and what is left of a line behind it.
+/// Drops the piece in hand, and what is left of a line after it.
 fn skip_line<S: Source>(piece: &mut Piece, source: &mut S) -> Result<(), Failed>
-    ensures rest { OnOk result (DropsLine (S.left source.old) (prepend_known piece.new (S.left source.new))) }
+    ensures rest { DropsRest (S.left source.old) result piece.new (S.left source.new) }
     ensures spent { S.budget source.new + length piece.new ≤ S.budget source.old }
     ensures cause { HasCause (S.faults source.old) (S.faults source.new) result }
+    ensures sink_side { S.sink_side source.new ≡ S.sink_side source.old }
 {
     while piece.refill(source)? {
         if let Some(at) = newline_in(piece.rest()) {
@@ -76,12 +75,10 @@ fn skip_line<S: Source>(piece: &mut Piece, source: &mut S) -> Result<(), Failed>
 
 /// The next line.
 fn next_line<S: Source>(alloc: Global, piece: &mut Piece, source: &mut S) -> Result<Line, LineFault>
-    ensures line { IfOk result (λ line. NextLine (prepend_known piece.old (S.left source.old)) line (prepend_known piece.new (S.left source.new))) }
-    ensures spent { IfOk result (λ line. line ≢ Line.End → S.budget source.new + length piece.new < S.budget source.old + length piece.old) }
-    ensures later { S.faults source.old ≤ S.faults source.new }
-    ensures failed { IsErrOf result LineFault.Failed → Rose (S.faults source.old) (S.faults source.new) }
-    ensures kept { OnOk result (S.faults source.new ≡ S.faults source.old) }
-    ensures no_memory { IsErrOf result LineFault.NoMemory → S.faults source.new ≡ S.faults source.old }
+    ensures line { ReadsLine piece.old (S.left source.old) result piece.new (S.left source.new) }
+    ensures spent { Uses piece.old (S.budget source.old) result piece.new (S.budget source.new) }
+    ensures cause { HasLineCause (S.faults source.old) (S.faults source.new) result }
+    ensures sink_side { S.sink_side source.new ≡ S.sink_side source.old }
 {
     let mut line = Vec::new(alloc);
     loop {
@@ -107,8 +104,8 @@ fn next_line<S: Source>(alloc: Global, piece: &mut Piece, source: &mut S) -> Res
     }
 }
 
-/// Cuts what a source gives into lines. Contracts see the bytes that it has read of the source and
-/// not yet answered. One reader serves one source. After an `Err` nothing is said of the lines that
+/// Cuts what is read of a source into lines. Contracts see the bytes that it has read and not yet
+/// returned. One reader serves one source. After an `Err` nothing is said of the lines that
 /// come.
 #[derive(Drop)]
 pub struct LineReader {
@@ -117,6 +114,8 @@ pub struct LineReader {
 }
 
 impl Model for LineReader {
+    ghost use Rattle.std.specs.Prelude.{ℕ, List};
+
     ghost Value = { List ℕ };
 
     ghost view = { λ r. r.piece };
@@ -135,15 +134,13 @@ impl LineReader {
 
     /// The next line. Of a line that is too long the rest is read and dropped.
     pub fn next<S: Source>(&mut self, source: &mut S) -> Result<Line, LineFault>
-        ensures line { IfOk result (λ line. NextLine (prepend_known self.old (S.left source.old)) line (prepend_known self.new (S.left source.new))) }
+        ensures line { ReadsLine self.old (S.left source.old) result self.new (S.left source.new) }
 
-        // A line takes bytes, so reading lines to the end comes to an end.
-        ensures spent { IfOk result (λ line. line ≢ Line.End → S.budget source.new + length self.new < S.budget source.old + length self.old) }
+        // A line takes bytes, so a loop over lines ends.
+        ensures spent { Uses self.old (S.budget source.old) result self.new (S.budget source.new) }
 
-        ensures later { S.faults source.old ≤ S.faults source.new }
-        ensures failed { IsErrOf result LineFault.Failed → Rose (S.faults source.old) (S.faults source.new) }
-        ensures kept { OnOk result (S.faults source.new ≡ S.faults source.old) }
-        ensures no_memory { IsErrOf result LineFault.NoMemory → S.faults source.new ≡ S.faults source.old }
+        ensures cause { HasLineCause (S.faults source.old) (S.faults source.new) result }
+        ensures sink_side { S.sink_side source.new ≡ S.sink_side source.old }
     {
         next_line(self.alloc, &mut self.piece, source)
     }

@@ -3,13 +3,17 @@
 
 mod calls;
 mod clock;
+mod connection;
 mod files;
 mod held;
+mod listener;
 mod sink;
 mod source;
 
 pub use clock::ClockInMemory;
+pub use connection::ConnInMemory;
 pub use files::{FilesInMemory, SteadyFiles};
 pub use held::HeldFile;
+pub use listener::ListenerInMemory;
 pub use sink::{SinkInMemory, SteadySink};
 pub use source::{SourceInMemory, SteadySource};

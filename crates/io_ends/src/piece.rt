@@ -1,8 +1,8 @@
 //! A piece of a source, which is taken front by front.
 
-ghost use Rattle.std.specs.Prelude.{◌≡◌, ◌+◌, ◌<◌, ◌≤◌, [], length, take, drop, OnOk, Ok, true, false};
-ghost use Rattle.std.specs.Io.KnownBytes.{prepend_known, Keeps, IsAtEnd};
-ghost use Rattle.io_ends.specs.Causes.{HasCause};
+ghost use Rattle.std.specs.Prelude.{◌≡◌, ◌+◌, ◌<◌, ◌≤◌, [], length, take, drop, Ok, true, false};
+ghost use Rattle.std.specs.Io.KnownBytes.{IsAtEnd};
+ghost use Rattle.io_ends.specs.Causes.{HasCause, Refills};
 
 use crate::ends::{Failed, Source};
 use std::marker::Model;
@@ -52,13 +52,14 @@ impl Piece {
         self.start += count;
     }
 
-    /// Gives up what is left of the piece, and reads the next one. False is the end of the source.
+    /// Drops what is left of the piece, and reads the next one. False is the end of the source.
     pub fn refill<S: Source>(&mut self, source: &mut S) -> Result<bool, Failed>
-        ensures same { OnOk result (Keeps (S.left source.old) (prepend_known self.new (S.left source.new))) }
+        ensures same { Refills (S.left source.old) result self.new (S.left source.new) }
         ensures more { result ≡ Ok true → S.budget source.new < S.budget source.old }
         ensures end { result ≡ Ok false → (self.new ≡ []) × IsAtEnd (S.left source.new) }
         ensures spent { S.budget source.new + length self.new ≤ S.budget source.old }
         ensures cause { HasCause (S.faults source.old) (S.faults source.new) result }
+        ensures sink_side { S.sink_side source.new ≡ S.sink_side source.old }
     {
         self.start = 0;
         self.end = 0;

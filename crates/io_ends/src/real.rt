@@ -8,7 +8,7 @@ use std::io::{self, Read, Write};
 use std::time::{SystemTime, UNIX_EPOCH};
 use std::{fs, rt};
 
-/// Bytes of a reader of std. It gives at most 2^62 of them, and then fails.
+/// Bytes of a reader of std. It reads at most 2^62 of them, and then fails.
 #[derive(Drop)]
 pub struct Reading<R: Read> {
     inner: R,
@@ -17,7 +17,7 @@ pub struct Reading<R: Read> {
 }
 
 impl<R: Read> Reading<R> {
-    /// The bytes that the reader gives from here on. No call has failed.
+    /// The bytes that the reader has from here on. No call has failed.
     pub fn new(inner: R) -> Reading<R>
         ensures left { ⟦<Reading<R> as Source>⟧.left result ≡ R.remaining inner }
         ensures faults { ⟦<Reading<R> as Source>⟧.faults result ≡ 0 }
@@ -83,7 +83,7 @@ impl<W: Write> Sink for Writing<W> {
     }
 }
 
-/// The files of the system. They tell no content.
+/// The files of the system, which have no ghost record of their contents.
 #[derive(Drop)]
 pub struct RealFiles<R: rt::Files + Drop> {
     rt: R,
@@ -150,15 +150,15 @@ impl<R: rt::Files + Drop> Files for RealFiles<R> {
     }
 }
 
-/// The clock of the system. It tells no readings.
-#[derive(Drop)]
+/// The clock of the system, which has no ghost record of its readings.
+#[derive(Clone, Drop)]
 pub struct RealClock<R: rt::Clock + Drop> {
     rt: R,
     last: u64,
 }
 
 impl<R: rt::Clock + Drop> RealClock<R> {
-    /// Where the clock can't be read at first, it reads 0.
+    /// A clock that can't be read at first reads 0.
     pub fn new(rt: R) -> RealClock<R>
         ensures { ⟦<RealClock<R> as Clock>⟧.readings result ≡ None }
     {

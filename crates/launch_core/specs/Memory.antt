@@ -36,6 +36,10 @@ pub record Kept : Type 0 where
   pub jobs : Option (List ℕ)
   pub room : ℕ
 
--- what it keeps once a job more is told: all of them while its room lasts, and from then on none
+-- jobs that fit into the room, and none if they don't
+abbrev pub fitting : ℕ → List ℕ → Option (List ℕ)
+fitting room jobs = if nat_le (length jobs) room then Some jobs else None
+
+-- what it keeps once a job more is signalled: all of them while its room lasts, and from then on none
 abbrev pub kept_with : Kept → ℕ → Option (List ℕ)
-kept_with kept job = option_and_then (λ jobs. if nat_le (length (jobs ++ job ∷ [])) kept.room then Some (jobs ++ job ∷ []) else None) kept.jobs
+kept_with kept job = option_and_then (λ jobs. fitting kept.room (jobs ++ job ∷ [])) kept.jobs

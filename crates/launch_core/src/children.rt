@@ -1,6 +1,6 @@
 //! The launcher over child processes.
 ghost use Rattle.std.specs.Prelude.{◌≡◌, ◌≤◌, length, None, IfOk};
-ghost use Rattle.launch_core.specs.Launching.{HasWords, CountsFault, GivesAtMost};
+ghost use Rattle.launch_core.specs.Launching.{HasWords, AddsRun, CountsFault, HasAtMost, output_read};
 
 use crate::launcher::Launcher;
 use op_keys::{Exit, Order};
@@ -22,7 +22,7 @@ pub(crate) enum Trouble {
 /// How a child ended.
 #[derive(Drop)]
 pub(crate) struct Ending {
-    /// None where a signal ended it.
+    /// None if a signal ended it.
     pub code: Option<u8>,
     /// Its first bytes, `OUTPUT_READ` at most.
     pub output: Vec<u8>,
@@ -71,7 +71,7 @@ pub(crate) fn read_output<P: OpenProcess + Drop>(
     alloc: Global,
     child: &mut Child<P>,
 ) -> io::Result<Vec<u8>>
-    ensures { IfOk result (λ output. length output.items ≤ OUTPUT_READ) }
+    ensures { IfOk result (λ output. length output.items ≤ output_read) }
 {
     let mut output = Vec::new(alloc);
     if let Some(stdout) = child.stdout.take() {
@@ -89,8 +89,8 @@ pub(crate) fn code_of(status: ExitStatus) -> Option<u8> {
 
 /// The answer of a launcher: trouble with the system is a fault, which is counted.
 pub(crate) fn answer(faults: &mut u64, ran: Result<Ending, Trouble>) -> Result<Exit, NoMemory>
-    requires { IfOk ran (λ ending. length ending.output.items ≤ OUTPUT_READ) }
-    ensures bound { IfOk result (GivesAtMost OUTPUT_READ) }
+    requires { IfOk ran (λ ending. length ending.output.items ≤ output_read) }
+    ensures bound { IfOk result (HasAtMost output_read) }
     ensures later { faults.old ≤ faults.new }
     ensures counted { CountsFault faults.old faults.new result }
 {
@@ -107,7 +107,8 @@ pub(crate) fn answer(faults: &mut u64, ran: Result<Ending, Trouble>) -> Result<E
     }
 }
 
-/// Runs each order as a child process whose standard input is at its end. It tells no runs.
+/// Runs each order as a child process whose standard input is at its end. It has no ghost record of
+/// its runs.
 #[derive(Drop)]
 pub struct ChildLauncher<'r, R: Processes> {
     rt: &'r R,
@@ -125,7 +126,7 @@ impl<'r, R: Processes> ChildLauncher<'r, R> {
 
     fn run_child(&self, alloc: Global, order: &Order) -> Result<Ending, Trouble>
         requires { HasWords order.now }
-        ensures { IfOk result (λ ending. length ending.output.items ≤ OUTPUT_READ) }
+        ensures { IfOk result (λ ending. length ending.output.items ≤ output_read) }
     {
         let mut child = start(self.rt, alloc, order, Stdio::null())?;
         let output = read_output(alloc, &mut child);
@@ -137,12 +138,30 @@ impl<'r, R: Processes> ChildLauncher<'r, R> {
     }
 }
 
+/// A clone goes on from the same count.
+impl<'r, R: Processes> Clone for ChildLauncher<'r, R> {
+    ghost is_clone = { λ launcher copy. copy.faults ≡ launcher.faults };
+
+    fn clone(&self) -> Result<ChildLauncher<'r, R>, AllocError> {
+        Ok(ChildLauncher {
+            rt: self.rt,
+            faults: self.faults,
+        })
+    }
+}
+
 impl<'r, R: Processes> Launcher for ChildLauncher<'r, R> {
     ghost runs = { λ _. None };
 
     ghost faults = { λ s. s.faults };
 
-    fn run(&mut self, alloc: Global, order: &Order) -> Result<Exit, NoMemory> {
+    fn run(&mut self, alloc: Global, order: &Order) -> Result<Exit, NoMemory>
+        requires { HasWords order.now }
+        ensures ran { AddsRun None order.now result None }
+        ensures bound { IfOk result (HasAtMost output_read) }
+        ensures later { self.old.faults ≤ self.new.faults }
+        ensures counted { CountsFault self.old.faults self.new.faults result }
+    {
         let ran = self.run_child(alloc, order);
         answer(&mut self.faults, ran)
     }

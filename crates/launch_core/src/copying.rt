@@ -1,4 +1,4 @@
-//! Copies of orders and exits.
+//! Copies of orders, exits and lists of them.
 ghost use Rattle.std.specs.Prelude.{◌≡◌, IfOk};
 
 use op_keys::{Exit, Order, Word};
@@ -40,4 +40,30 @@ pub fn copy_of_exit(alloc: Global, exit: &Exit) -> Result<Exit, NoMemory>
         }),
         Exit::Fault => Ok(Exit::Fault),
     }
+}
+
+/// Equal exits.
+pub(crate) fn copy_of_exits(alloc: Global, exits: &[Exit]) -> Result<Vec<Exit>, NoMemory>
+    ensures { IfOk result (λ copy. copy.items ≡ exits.now) }
+{
+    let mut copies = Vec::new(alloc);
+    for exit in exits {
+        copies.push(copy_of_exit(alloc, exit)?)?;
+    }
+    Ok(copies)
+}
+
+/// Equal runs.
+pub(crate) fn copy_of_runs(
+    alloc: Global,
+    runs: &[(Order, Exit)],
+) -> Result<ListOf<(Order, Exit)>, NoMemory>
+    ensures { IfOk result (λ copy. copy ≡ runs.now) }
+{
+    let mut copies = ListOf::new(alloc);
+    for run in runs {
+        let copy = (copy_of_order(alloc, &run.0)?, copy_of_exit(alloc, &run.1)?);
+        copies.push(copy)?;
+    }
+    Ok(copies)
 }

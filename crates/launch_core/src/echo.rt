@@ -1,19 +1,20 @@
 //! A launcher that runs nothing.
-ghost use Rattle.std.specs.Prelude.{◌≡◌, [], ◌∷◌, Some, IfOk, OnErr};
-ghost use Rattle.launch_core.specs.Launching.{HasWords, Grows};
+ghost use Rattle.std.specs.Prelude.{◌≡◌, [], Some, IfOk};
+ghost use Rattle.launch_core.specs.Launching.{HasWords, AddsRun};
 ghost use Rattle.launch_core.specs.Memory.{last_word, echo};
 
-use crate::copying::{copy_of_exit, copy_of_order};
+use crate::copying::{copy_of_exit, copy_of_order, copy_of_runs};
 use crate::launcher::Launcher;
 use op_keys::{Exit, Order};
-use std::alloc::Global;
+use std::alloc::{AllocError, Global};
 use std::marker::Model;
 use value_core::{ListOf, NoMemory};
 
-/// Answers each order with its last word, as a child process that prints it would. It never fails
-/// but for want of memory, and tells what it ran.
+/// Answers each order with its last word, as a child process that prints it would. It fails only
+/// when out of memory, and has a ghost record of its runs.
 #[derive(Drop)]
 pub struct EchoLauncher {
+    alloc: Global,
     runs: ListOf<(Order, Exit)>,
 }
 
@@ -31,6 +32,7 @@ impl EchoLauncher {
         ensures { result ≡ [] }
     {
         EchoLauncher {
+            alloc,
             runs: ListOf::new(alloc),
         }
     }
@@ -48,6 +50,17 @@ fn echo_of(alloc: Global, order: &Order) -> Result<Exit, NoMemory>
     })
 }
 
+impl Clone for EchoLauncher {
+    ghost is_clone = { λ launcher copy. copy ≡ launcher };
+
+    fn clone(&self) -> Result<EchoLauncher, AllocError> {
+        Ok(EchoLauncher {
+            alloc: self.alloc,
+            runs: copy_of_runs(self.alloc, self.runs.as_slice())?,
+        })
+    }
+}
+
 impl Launcher for EchoLauncher {
     ghost runs = { λ runs. Some runs };
 
@@ -56,8 +69,7 @@ impl Launcher for EchoLauncher {
     fn run(&mut self, alloc: Global, order: &Order) -> Result<Exit, NoMemory>
         requires { HasWords order.now }
         ensures echoes { IfOk result (λ exit. exit ≡ echo order.now) }
-        ensures ran { IfOk result (λ exit. Grows (Some self.old) (Some self.new) ((order.now, exit) ∷ [])) }
-        ensures err { OnErr result (self.new ≡ self.old) }
+        ensures ran { AddsRun (Some self.old) order.now result (Some self.new) }
     {
         let exit = echo_of(alloc, order)?;
         let run = (copy_of_order(alloc, order)?, copy_of_exit(alloc, &exit)?);

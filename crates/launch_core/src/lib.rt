@@ -17,7 +17,7 @@ pub use copying::{copy_of_exit, copy_of_order};
 pub use echo::EchoLauncher;
 pub use launcher::{Launcher, ORDER_WORDS};
 pub use memory::{LauncherInMemory, SignallerInMemory};
-pub use signalled::{ChildInputs, ChildSignaller, SignalledLauncher, no_inputs};
+pub use signalled::{ChildSignaller, SignalledLauncher};
 pub use signaller::Signaller;
 
 #[cfg(test)]

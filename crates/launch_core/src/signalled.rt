@@ -1,8 +1,8 @@
 //! The launcher whose children can be told to stop, and the signaller that tells them.
 ghost use Rattle.std.specs.Prelude.{◌≡◌, ◌≤◌, length, None, IfOk};
-ghost use Rattle.launch_core.specs.Launching.{HasWords};
+ghost use Rattle.launch_core.specs.Launching.{HasWords, AddsRun, CountsFault, HasAtMost, output_read};
 
-use crate::children::{Ending, OUTPUT_READ, Trouble, answer, code_of, read_output, start};
+use crate::children::{Ending, Trouble, answer, code_of, read_output, start};
 use crate::launcher::Launcher;
 use crate::signaller::Signaller;
 use op_keys::{Exit, Order};
@@ -14,12 +14,7 @@ use std::sync::{Arc, Mutex, Wait};
 use value_core::NoMemory;
 
 /// The standard inputs of the children that run, by their jobs.
-pub type ChildInputs = Arc<Mutex<BTreeMap<u64, ChildStdin>>, Global>;
-
-/// No child's input.
-pub fn no_inputs(alloc: Global) -> Result<ChildInputs, NoMemory> {
-    Arc::new(alloc, Mutex::new(BTreeMap::new(alloc))).map_err(AllocError::from)
-}
+type ChildInputs = Arc<Mutex<BTreeMap<u64, ChildStdin>>, Global>;
 
 fn keep_input<R: Wait>(
     rt: &R,
@@ -38,7 +33,7 @@ fn remove_input<R: Wait>(rt: &R, inputs: &ChildInputs, job: u64) -> Option<Child
 }
 
 /// Runs each order as a child process whose standard input stays open until the job is told to stop
-/// or the child has ended. It tells no runs.
+/// or the child has ended. It has no ghost record of its runs.
 #[derive(Drop)]
 pub struct SignalledLauncher<'r, R: Processes<Started = SystemProcess> + Wait> {
     rt: &'r R,
@@ -47,21 +42,31 @@ pub struct SignalledLauncher<'r, R: Processes<Started = SystemProcess> + Wait> {
 }
 
 impl<'r, R: Processes<Started = SystemProcess> + Wait> SignalledLauncher<'r, R> {
-    /// The inputs are those that its signallers know too. No run has failed.
-    pub fn new(rt: &'r R, inputs: ChildInputs) -> SignalledLauncher<'r, R>
-        ensures runs { ⟦<SignalledLauncher<'r, R> as Launcher>⟧.runs result ≡ None }
-        ensures faults { ⟦<SignalledLauncher<'r, R> as Launcher>⟧.faults result ≡ 0 }
+    /// No child runs, and no run has failed.
+    pub fn new(rt: &'r R, alloc: Global) -> Result<SignalledLauncher<'r, R>, NoMemory>
+        ensures { IfOk result (λ launcher. launcher.faults ≡ 0) }
     {
-        SignalledLauncher {
+        let inputs = Arc::new(alloc, Mutex::new(BTreeMap::new(alloc))).map_err(AllocError::from)?;
+        Ok(SignalledLauncher {
             rt,
             inputs,
             faults: 0,
-        }
+        })
+    }
+
+    /// A signaller of the children of this launcher and of its clones.
+    pub fn signaller(&self) -> Result<ChildSignaller<'r, R>, NoMemory>
+        ensures { IfOk result (λ s. ⟦<ChildSignaller<'r, R> as Signaller>⟧.signalled s ≡ None) }
+    {
+        Ok(ChildSignaller {
+            rt: self.rt,
+            inputs: Arc::try_clone(&self.inputs)?,
+        })
     }
 
     fn run_child(&self, alloc: Global, order: &Order) -> Result<Ending, Trouble>
         requires { HasWords order.now }
-        ensures { IfOk result (λ ending. length ending.output.items ≤ OUTPUT_READ) }
+        ensures { IfOk result (λ ending. length ending.output.items ≤ output_read) }
     {
         let mut child = start(self.rt, alloc, order, Stdio::piped())?;
         let kept = keep_input(self.rt, &self.inputs, order.job, child.stdin.take());
@@ -95,36 +100,34 @@ impl<'r, R: Processes<Started = SystemProcess> + Wait> Launcher for SignalledLau
 
     ghost faults = { λ s. s.faults };
 
-    fn run(&mut self, alloc: Global, order: &Order) -> Result<Exit, NoMemory> {
+    fn run(&mut self, alloc: Global, order: &Order) -> Result<Exit, NoMemory>
+        requires { HasWords order.now }
+        ensures ran { AddsRun None order.now result None }
+        ensures bound { IfOk result (HasAtMost output_read) }
+        ensures later { self.old.faults ≤ self.new.faults }
+        ensures counted { CountsFault self.old.faults self.new.faults result }
+    {
         let ran = self.run_child(alloc, order);
         answer(&mut self.faults, ran)
     }
 }
 
-/// Tells a child by a line to its standard input, which is then closed. It tells no jobs.
+/// Tells a child by a line to its standard input, which is then closed. It has no ghost record of
+/// the jobs.
 #[derive(Drop)]
 pub struct ChildSignaller<'r, R: Wait> {
     rt: &'r R,
-    inputs: ChildInputs,
-}
-
-impl<'r, R: Wait> ChildSignaller<'r, R> {
-    /// The inputs are those of a launcher.
-    pub fn new(rt: &'r R, inputs: ChildInputs) -> ChildSignaller<'r, R>
-        ensures { ⟦<ChildSignaller<'r, R> as Signaller>⟧.told result ≡ None }
-    {
-        ChildSignaller { rt, inputs }
-    }
+    pub(crate) inputs: ChildInputs,
 }
 
 impl<'r, R: Wait> Signaller for ChildSignaller<'r, R> {
-    ghost told = { λ _. None };
+    ghost signalled = { λ _. None };
 
     fn signal(&mut self, job: u64) {
         // The lock is given back before the line is written.
         let input = remove_input(self.rt, &self.inputs, job);
         if let Some(mut input) = input {
-            // A child that has gone hears nothing, which is no matter.
+            // A child that has ended reads nothing, which is no matter.
             drop(input.write_all(b"cancel\n"));
         }
     }

@@ -11,13 +11,13 @@ use Rattle.value_core.specs.declared.state.Triple.{Triple}
 use Rattle.term_core.specs.declared.program.Program.{Program}
 use Rattle.term_core.specs.declared.program.NodeDecl.{NodeDecl}
 use Rattle.term_core.specs.declared.program.Term.{Term, Term-F, roll-Term, map-Term, fold-roll-Term, ind-Term}
-use Rattle.term_core.specs.declared.reading.Binding.{Binding}
+use Rattle.term_core.specs.declared.context.Binding.{Binding}
 use Rattle.term_core.specs.declared.entries.Entry.{Entry}
 use Rattle.term_core.specs.States.{listed, passed, paired, mapped, caught, observed, gated}
 use Rattle.value_core.specs.Parts.{text_in, items_in}
 use Rattle.term_core.specs.World.{World}
 use Rattle.term_core.specs.Runs.{Run, stated, visited, turned, after, follow, follow_both, then_do, then_both, together}
-use Rattle.term_core.specs.Evaluation.{Given, given_of, Meaning, bind, fits, triple_of, entry_state, wanted, looked_up, map_run, pair_run, bind_run, items_run, list_run, outcome_run, gate_run, all_run, build_run, output_run, term_step, eval}
+use Rattle.term_core.specs.Evaluation.{Context, context_of, Meaning, bind, fits, triple_of, entry_state, wanted, looked_up, map_run, pair_run, bind_run, items_run, list_run, outcome_run, gate_run, all_run, build_run, output_run, term_step, eval}
 use Rattle.term_core.specs.Fresh.{decl_run, node_run, FreshRun, run_before, fresh_from, fresh}
 use Rattle.term_core.specs.Laws.{Agree}
 
@@ -89,11 +89,11 @@ all_local w v f g h [] = tt
 all_local w v f g h (x ∷ xs) = (h x, all_local w v f g h xs)
 
 module _ (program : Program) (node : ℕ) (inputs : List Value) (earlier : List State) (w v : World) where
-  abbrev one : Given
-  one = given_of program node inputs earlier w
+  abbrev one : Context
+  one = context_of program node inputs earlier w
 
-  abbrev two : Given
-  two = given_of program node inputs earlier v
+  abbrev two : Context
+  two = context_of program node inputs earlier v
 
   abbrev IsLocal : Term → Type 0
   IsLocal t = (env : List Binding) → Local w v (eval one t env) (eval two t env)
@@ -135,7 +135,7 @@ module _ (program : Program) (node : ℕ) (inputs : List Value) (earlier : List 
 
   -- a lookup by whether its order is short enough
   abbrev look : Bool → World → (List ℕ → Value) → Triple → Run
-  look b z meant t = if b then wanted (given_of program node inputs earlier z) meant t else stated (Failed node (codes "order too long"))
+  look b z meant t = if b then wanted (context_of program node inputs earlier z) meant t else stated (Failed node (codes "order too long"))
 
   look_local : (b : Bool) (meant : List ℕ → Value) (t : Triple) → Local w v (look b w meant t) (look b v meant t)
   look_local true meant t a = ap (λ (e : Entry). let r : Run = record { state = entry_state node meant e; wants = t ∷ []; ticks = 0 } in r) a.0
@@ -189,20 +189,20 @@ module _ (program : Program) (node : ℕ) (inputs : List Value) (earlier : List 
   eval_local = ind-Term IsLocal (λ x y is. subst (λ z. IsLocal (roll-Term z)) is (rolled_local _ (layer_local (λ e. e.0) (λ e. e.1) y)))
 
 pub decl_local : (program : Program) (node : ℕ) (inputs : List Value) (earlier : List State) (w v : World) (d : Option NodeDecl) →
-    Local w v (decl_run (given_of program node inputs earlier w) d) (decl_run (given_of program node inputs earlier v) d)
+    Local w v (decl_run (context_of program node inputs earlier w) d) (decl_run (context_of program node inputs earlier v) d)
 decl_local program node inputs earlier w v None a = refl
 decl_local program node inputs earlier w v (Some d) a = eval_local program node inputs earlier w v d.term [] a
 
 pub node_local : (program : Program) (node : ℕ) (inputs : List Value) (earlier : List State) (w v : World) →
-    Local w v (node_run (given_of program node inputs earlier w)) (node_run (given_of program node inputs earlier v))
+    Local w v (node_run (context_of program node inputs earlier w)) (node_run (context_of program node inputs earlier v))
 node_local program node inputs earlier w v = decl_local program node inputs earlier w v (slice_get program.nodes node)
 
 pub fresh_from_local : (program : Program) (inputs : List Value) (w v : World) (at : ℕ) (earlier : List State) (ds : List NodeDecl) →
     Agree w v (fresh_from program inputs w at earlier ds).wants → fresh_from program inputs w at earlier ds ≡ fresh_from program inputs v at earlier ds
 fresh_from_local program inputs w v at earlier [] a = refl
 fresh_from_local program inputs w v at earlier (d ∷ ds) a =
-    let r : Run = eval (given_of program at inputs earlier w) d.term [] in
-    let q : Run = eval (given_of program at inputs earlier v) d.term [] in
+    let r : Run = eval (context_of program at inputs earlier w) d.term [] in
+    let q : Run = eval (context_of program at inputs earlier v) d.term [] in
     let e : r ≡ q = eval_local program at inputs earlier w v d.term [] (agree_left w v r.wants _ a) in
     let f = fresh_from_local program inputs w v (at + 1) (earlier ++ r.state ∷ []) ds (agree_right w v r.wants _ a) in
     ap (λ (z : FreshRun). run_before r z) f

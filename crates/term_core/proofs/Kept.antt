@@ -5,7 +5,7 @@ use Rattle.value_core.specs.declared.state.State.{State}
 use Rattle.value_core.specs.declared.state.Triple.{Triple}
 use Rattle.term_core.specs.declared.program.Program.{Program}
 use Rattle.term_core.specs.declared.program.NodeDecl.{NodeDecl}
-use Rattle.term_core.specs.Evaluation.{given_of, eval}
+use Rattle.term_core.specs.Evaluation.{context_of, eval}
 use Rattle.term_core.specs.Fresh.{fresh_from}
 use Rattle.term_core.specs.World.{World}
 
@@ -17,9 +17,9 @@ pub record Kept (program : Program) (inputs : List Value) (world : World) (begun
 pub kept_step : {program : Program} {inputs : List Value} {world : World} {begun at : ℕ} {states : List State} {wants : List Triple} {steps : ℕ} →
     Kept program inputs world begun at states wants steps → (d : NodeDecl) (state : State) (more : List Triple) (steps' : ℕ) →
     drop at program.nodes ≡ d ∷ drop (at + 1) program.nodes →
-    state ≡ (eval (given_of program at inputs states world) d.term []).state →
-    more ≡ (eval (given_of program at inputs states world) d.term []).wants →
-    steps' ≡ steps + (eval (given_of program at inputs states world) d.term []).ticks →
+    state ≡ (eval (context_of program at inputs states world) d.term []).state →
+    more ≡ (eval (context_of program at inputs states world) d.term []).wants →
+    steps' ≡ steps + (eval (context_of program at inputs states world) d.term []).ticks →
     Kept program inputs world begun (at + 1) (states ++ state ∷ []) (wants ++ more) steps'
 kept_step {steps = steps} k d state more steps' cons is_state is_more is_steps =
     let s = rw cons at k.states_kept in

@@ -13,7 +13,7 @@ use Rattle.term_core.specs.declared.program.Term.{Term, Term-F, fold-Term}
 use Rattle.term_core.specs.declared.program.Program.{Program}
 use Rattle.term_core.specs.declared.program.InputDecl.{InputDecl}
 use Rattle.term_core.specs.declared.program.NodeDecl.{NodeDecl}
-use Rattle.term_core.specs.declared.reading.Binding.{Binding}
+use Rattle.term_core.specs.declared.context.Binding.{Binding}
 use Rattle.term_core.specs.declared.entries.Entry.{Entry}
 use Rattle.term_core.specs.declared.entries.Entry.TheVariants as entry
 use Rattle.op_keys.specs.Names.{index_named}
@@ -22,8 +22,8 @@ use Rattle.term_core.specs.Runs.{Run, stated, visited, turned, after, then_do, t
 use Rattle.value_core.specs.Parts.{text_in, items_in}
 use Rattle.term_core.specs.World.{World, entry_of}
 
--- what a term is evaluated against: its node's number, a value for each input, the states of the earlier nodes, and the entries
-pub record Given : Type 0 where
+-- what a term is evaluated in: the pipeline, the index of its node, a value for each input, the states of the earlier nodes, and the entries
+pub record Context : Type 0 where
   pub program : Program
   pub node : ℕ
   pub inputs : List Value
@@ -31,8 +31,8 @@ pub record Given : Type 0 where
   pub world : World
 
 -- the same, by its parts
-abbrev pub given_of : Program → ℕ → List Value → List State → World → Given
-given_of program node inputs earlier world = record { program = program; node = node; inputs = inputs; earlier = earlier; world = world }
+abbrev pub context_of : Program → ℕ → List Value → List State → World → Context
+context_of program node inputs earlier world = record { program = program; node = node; inputs = inputs; earlier = earlier; world = world }
 
 -- a value that is there, or unit
 abbrev pub value_or_unit : Option Value → Value
@@ -62,8 +62,8 @@ abbrev pub bind : List Binding → List ℕ → Value → List Binding
 bind bound name v = bound ++ record { name = name; value = v } ∷ []
 
 -- the triple of a key and a value for the operation of this name
-abbrev pub triple_of : Given → List ℕ → List ℕ → List ℕ → Triple
-triple_of given op key v = record { op = index_named 0 (map (λ d. d.name) given.program.ops) op; key = key; value = v }
+abbrev pub triple_of : Context → List ℕ → List ℕ → List ℕ → Triple
+triple_of context op key v = record { op = index_named 0 (map (λ d. d.name) context.program.ops) op; key = key; value = v }
 
 -- whether each word of the operation's order is short enough; what isn't declared has no words
 abbrev pub fits : Option OpDecl → Triple → Bool
@@ -77,12 +77,12 @@ entry_state node meant (entry.Bad m) = Failed node m
 entry_state node meant (entry.Active stage) = Active node stage
 
 -- a triple that is wanted once more
-abbrev pub wanted : Given → (List ℕ → Value) → Triple → Run
-wanted given meant t = record { state = entry_state given.node meant (entry_of given.world t); wants = t ∷ []; ticks = 0 }
+abbrev pub wanted : Context → (List ℕ → Value) → Triple → Run
+wanted context meant t = record { state = entry_state context.node meant (entry_of context.world t); wants = t ∷ []; ticks = 0 }
 
 -- the lookup of a triple: one whose order has a word that is too long is not wanted
-unfoldable pub looked_up : Given → (List ℕ → Value) → Triple → Run
-looked_up given meant t = if fits (slice_get given.program.ops t.op) t then wanted given meant t else stated (Failed given.node (codes "order too long"))
+unfoldable pub looked_up : Context → (List ℕ → Value) → Triple → Run
+looked_up context meant t = if fits (slice_get context.program.ops t.op) t then wanted context meant t else stated (Failed context.node (codes "order too long"))
 
 -- the bound values, the innermost last
 abbrev pub Bound : Type 0
@@ -93,12 +93,12 @@ abbrev pub Meaning : Type 0
 Meaning = Bound → Run
 
 -- a function of the term's value
-unfoldable pub map_run : Given → Fun → Meaning → Meaning
-map_run given f t bound = visited (turned (mapped given.node f) (t bound))
+unfoldable pub map_run : Context → Fun → Meaning → Meaning
+map_run context f t bound = visited (turned (mapped context.node f) (t bound))
 
 -- both terms, as a pair
-unfoldable pub pair_run : Given → Meaning → Meaning → Meaning
-pair_run given a b bound = visited (together (a bound ∷ b bound ∷ []) (paired given.node))
+unfoldable pub pair_run : Context → Meaning → Meaning → Meaning
+pair_run context a b bound = visited (together (a bound ∷ b bound ∷ []) (paired context.node))
 
 -- the body under the left term's value
 unfoldable pub bind_run : List ℕ → Meaning → Meaning → Meaning
@@ -125,32 +125,32 @@ unfoldable pub all_run : List Run → Run
 all_run rs = visited (together rs passed)
 
 -- the lookup of a key
-unfoldable pub build_run : Given → List ℕ → Meaning → Meaning
-build_run given op key bound = visited (then_do (key bound) (λ k. looked_up given value.Words (triple_of given op (text_in k) [])))
+unfoldable pub build_run : Context → List ℕ → Meaning → Meaning
+build_run context op key bound = visited (then_do (key bound) (λ k. looked_up context value.Words (triple_of context op (text_in k) [])))
 
 -- the lookup of a key and a value
-unfoldable pub output_run : Given → List ℕ → Meaning → Meaning → Meaning
-output_run given op key v bound = visited (then_both (key bound) (v bound) (λ k x. looked_up given (λ t. value.Unit) (triple_of given op (text_in k) (text_in x))))
+unfoldable pub output_run : Context → List ℕ → Meaning → Meaning → Meaning
+output_run context op key v bound = visited (then_both (key bound) (v bound) (λ k x. looked_up context (λ t. value.Unit) (triple_of context op (text_in k) (text_in x))))
 
 -- one layer of a term, where each part is its meaning
-abbrev pub term_step : Given → Term-F Meaning → Meaning
-term_step given (Term-F.Return v) bound = visited (stated (Fine v))
-term_step given (Term-F.Fail kind m) bound = visited (stated (Failed given.node m))
-term_step given (Term-F.Input n) bound = visited (stated (Fine (input_named given.program.inputs given.inputs n)))
-term_step given (Term-F.Node n) bound = visited (stated (node_named given.program.nodes given.earlier n))
-term_step given (Term-F.Var n) bound = visited (stated (Fine (innermost value.Unit bound n)))
-term_step given (Term-F.Map f t) bound = map_run given f t bound
-term_step given (Term-F.Pair a b) bound = pair_run given a b bound
-term_step given (Term-F.Bind n t u) bound = bind_run n t u bound
-term_step given (Term-F.ListMap n t u) bound = list_run (listed given.node) n t u bound
-term_step given (Term-F.ListIter n t u) bound = list_run passed n t u bound
-term_step given (Term-F.Catch t) bound = outcome_run caught t bound
-term_step given (Term-F.State t) bound = outcome_run observed t bound
-term_step given (Term-F.Gate on t) bound = gate_run on t bound
-term_step given (Term-F.All ts) bound = all_run (map (λ t. t bound) ts)
-term_step given (Term-F.Build op k) bound = build_run given op k bound
-term_step given (Term-F.Output op k v) bound = output_run given op k v bound
+abbrev pub term_step : Context → Term-F Meaning → Meaning
+term_step context (Term-F.Return v) bound = visited (stated (Fine v))
+term_step context (Term-F.Fail kind m) bound = visited (stated (Failed context.node m))
+term_step context (Term-F.Input n) bound = visited (stated (Fine (input_named context.program.inputs context.inputs n)))
+term_step context (Term-F.Node n) bound = visited (stated (node_named context.program.nodes context.earlier n))
+term_step context (Term-F.Var n) bound = visited (stated (Fine (innermost value.Unit bound n)))
+term_step context (Term-F.Map f t) bound = map_run context f t bound
+term_step context (Term-F.Pair a b) bound = pair_run context a b bound
+term_step context (Term-F.Bind n t u) bound = bind_run n t u bound
+term_step context (Term-F.ListMap n t u) bound = list_run (listed context.node) n t u bound
+term_step context (Term-F.ListIter n t u) bound = list_run passed n t u bound
+term_step context (Term-F.Catch t) bound = outcome_run caught t bound
+term_step context (Term-F.State t) bound = outcome_run observed t bound
+term_step context (Term-F.Gate on t) bound = gate_run on t bound
+term_step context (Term-F.All ts) bound = all_run (map (λ t. t bound) ts)
+term_step context (Term-F.Build op k) bound = build_run context op k bound
+term_step context (Term-F.Output op k v) bound = output_run context op k v bound
 
 -- what a term comes to
-abbrev pub eval : Given → Term → Meaning
-eval given = fold-Term Meaning (term_step given)
+abbrev pub eval : Context → Term → Meaning
+eval context = fold-Term Meaning (term_step context)

@@ -7,18 +7,18 @@ use Rattle.value_core.specs.declared.state.State.TheVariants.{Fine}
 use Rattle.value_core.specs.declared.state.Triple.{Triple}
 use Rattle.term_core.specs.declared.program.Program.{Program}
 use Rattle.term_core.specs.declared.program.NodeDecl.{NodeDecl}
-use Rattle.term_core.specs.Evaluation.{Given, given_of, eval}
+use Rattle.term_core.specs.Evaluation.{Context, context_of, eval}
 use Rattle.term_core.specs.Runs.{Run, stated}
 use Rattle.term_core.specs.World.{World}
 
 -- what the term of a declaration comes to
-abbrev pub decl_run : Given → Option NodeDecl → Run
-decl_run given None = stated (Fine value.Unit)
-decl_run given (Some d) = eval given d.term []
+abbrev pub decl_run : Context → Option NodeDecl → Run
+decl_run context None = stated (Fine value.Unit)
+decl_run context (Some d) = eval context d.term []
 
 -- what the node's own term comes to
-abbrev pub node_run : Given → Run
-node_run given = decl_run given (slice_get given.program.nodes given.node)
+abbrev pub node_run : Context → Run
+node_run context = decl_run context (slice_get context.program.nodes context.node)
 
 -- the states of all nodes, their wants in order of evaluation, and how many terms are visited
 pub record FreshRun : Type 0 where
@@ -34,7 +34,7 @@ run_before r later = record { states = r.state ∷ later.states; wants = r.wants
 abbrev pub fresh_from : Program → List Value → World → ℕ → List State → List NodeDecl → FreshRun
 fresh_from program inputs world at earlier [] = record { states = []; wants = []; ticks = 0 }
 fresh_from program inputs world at earlier (d ∷ ds) =
-    let r : Run = eval (given_of program at inputs earlier world) d.term [] in
+    let r : Run = eval (context_of program at inputs earlier world) d.term [] in
     run_before r (fresh_from program inputs world (at + 1) (earlier ++ r.state ∷ []) ds)
 
 -- all nodes over these values of the inputs and this world, keeping nothing from before

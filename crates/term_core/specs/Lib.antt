@@ -5,6 +5,9 @@ pub mod Runs
 pub mod Evaluation
 pub mod Fresh
 pub mod Views
+pub mod Evaluators
+pub mod Codes
+pub mod Counts
 pub mod Laws
 pub mod Limits
 pub mod Soundness

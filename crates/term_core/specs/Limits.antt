@@ -1,7 +1,7 @@
 -- The limits of a program.
 use Rattle.std.specs.Prelude.{◌≡◌, ℕ, ◌+◌, ◌^◌, ◌≤◌, ◌≤ℤ◌, ℤ, pos, negsuc, max, nat_le, nat_lt, Bool, true, false, ◌&&◌, List, [], ◌∷◌, length, map, sum, Option, Some, None}
 use Rattle.std.specs.List.{AllByRecursion, list_all}
-use Rattle.value_core.specs.Names.{is_letter, is_word_byte}
+use Rattle.value_core.specs.Names.{is_name}
 use Rattle.value_core.specs.Values.{weight_of}
 use Rattle.value_core.specs.declared.value.Outcome.{Outcome}
 use Rattle.value_core.specs.declared.value.Value.{Value, Value-F, out-Value}
@@ -17,11 +17,6 @@ use Rattle.term_core.specs.declared.program.NodeDecl.{NodeDecl}
 use Rattle.term_core.specs.declared.program.Program.{Program}
 use Rattle.term_core.specs.declared.program.Term.{Term, Term-F, fold-Term}
 use Rattle.term_core.specs.States.{weight_limit}
-
--- whether a name begins with a letter, goes on with letters, digits, `_` and `-`, and has at most 64 bytes
-abbrev pub is_name : List ℕ → Bool
-is_name [] = false
-is_name (b ∷ bs) = is_letter b && (list_all is_word_byte bs && nat_le (length (b ∷ bs)) 64)
 
 -- whether a text has at most 65,536 bytes
 abbrev pub is_text : List ℕ → Bool

@@ -5,11 +5,10 @@ use Rattle.std.specs.Option.{option_and_then}
 use Rattle.std.specs.Str.{bytes_eq}
 use Rattle.value_core.specs.Codes.{kind_code}
 use Rattle.value_core.specs.FunctionKinds.{kind_given}
+use Rattle.value_core.specs.Kinds.{literal_kind}
 use Rattle.value_core.specs.Same.{same}
 use Rattle.value_core.specs.declared.value.Kind.{Kind, Kind-F, out-Kind, fold-Kind}
 use Rattle.value_core.specs.declared.value.Kind.TheVariants as kind
-use Rattle.value_core.specs.declared.value.Outcome.{Outcome}
-use Rattle.value_core.specs.declared.value.Value.{Value, Value-F, out-Value}
 use Rattle.term_core.specs.Limits.{IsWithinLimits, parts_of}
 use Rattle.op_keys.specs.Names.{index_named}
 use Rattle.term_core.specs.declared.program.FailKind.{FailKind}
@@ -38,17 +37,6 @@ small k = if nat_lt 64 (kind_parts k) then None else Some k
 -- a kind, where it is the wanted one
 abbrev pub wanted_kind : Kind → Kind → Option Kind
 wanted_kind wanted k = if same kind_code k wanted then Some k else None
-
--- the kind of a literal's layer; a list is a list of texts, and what is no literal counts as unit
-abbrev pub literal_layer_kind : Value-F Outcome Value → Kind
-literal_layer_kind (Value-F.Words t) = kind.Text
-literal_layer_kind (Value-F.Num n) = kind.Num
-literal_layer_kind (Value-F.List xs) = kind.List kind.Text
-literal_layer_kind v = kind.Unit
-
--- the kind of a literal
-abbrev pub literal_kind : Value → Kind
-literal_kind v = literal_layer_kind (out-Value v)
 
 -- the kind that a failing term is of
 abbrev pub fail_kind : FailKind → Kind

@@ -1,19 +1,7 @@
 //! Declarations by their names.
-ghost use Rattle.std.specs.Prelude.{◌≡◌, ℕ, ◌≤◌, map, length, List};
-ghost use Rattle.op_keys.specs.Names.{index_named};
-
 use crate::program::{InputDecl, NodeDecl};
-use op_keys::{OpDecl, PoolDecl, WorkerDecl};
+use op_keys::Named;
 use value_core::Text;
-
-/// What has a name.
-pub trait Named {
-    /// Its name.
-    ghost named: { Self → List ℕ };
-
-    fn name(&self) -> &Text
-        ensures { result.now ≡ named self.now };
-}
 
 impl Named for InputDecl {
     ghost named = { λ d. d.name };
@@ -29,41 +17,4 @@ impl Named for NodeDecl {
     fn name(&self) -> &Text {
         &self.name
     }
-}
-
-impl Named for OpDecl {
-    ghost named = { λ d. d.name };
-
-    fn name(&self) -> &Text {
-        &self.name
-    }
-}
-
-impl Named for PoolDecl {
-    ghost named = { λ d. d.name };
-
-    fn name(&self) -> &Text {
-        &self.name
-    }
-}
-
-impl Named for WorkerDecl {
-    ghost named = { λ d. d.name };
-
-    fn name(&self) -> &Text {
-        &self.name
-    }
-}
-
-/// The place of the first declaration of this name, or how many there are where none has it.
-pub fn index_of<D: Named>(decls: &[D], name: &Text) -> usize
-    ensures place { result ≡ index_named 0 (map D.named decls.now) name.now }
-    ensures within { result ≤ length decls.now }
-{
-    for (i, decl) in decls.iter().enumerate() {
-        if decl.name().is(name) {
-            return i;
-        }
-    }
-    decls.len()
 }

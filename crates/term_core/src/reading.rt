@@ -1,54 +1,12 @@
-//! What names and values are read as in a term.
+//! Bound values by their names, and the parts of values.
 ghost use Rattle.std.specs.Prelude.{◌≡◌, IfOk};
 ghost use Rattle.value_core.specs.declared.value.Value.TheVariants as value;
-ghost use Rattle.term_core.specs.Evaluation.{innermost, input_named, node_named};
+ghost use Rattle.term_core.specs.Evaluation.{innermost};
 ghost use Rattle.value_core.specs.Parts.{items_in, text_in};
 
-use crate::names::index_of;
-use crate::program::{InputDecl, NodeDecl};
+use crate::context::Binding;
 use std::alloc::Global;
-use value_core::{ListOf, NoMemory, State, Text, Value};
-
-/// A value under a name.
-#[derive(Drop)]
-pub(crate) struct Binding {
-    pub(crate) name: Text,
-    pub(crate) value: Value,
-}
-
-/// The value of an input.
-pub(crate) fn input_of(
-    alloc: Global,
-    decls: &[InputDecl],
-    values: &[Value],
-    name: &Text,
-) -> Result<Value, NoMemory>
-    ensures { IfOk result (λ v. v ≡ input_named decls.now values.now name.now) }
-{
-    let place = index_of(decls, name);
-    if place < values.len() {
-        values[place].copy(alloc)
-    } else {
-        Ok(Value::Unit)
-    }
-}
-
-/// The state of an earlier node.
-pub(crate) fn node_of(
-    alloc: Global,
-    decls: &[NodeDecl],
-    states: &[State],
-    name: &Text,
-) -> Result<State, NoMemory>
-    ensures { IfOk result (λ s. s ≡ node_named decls.now states.now name.now) }
-{
-    let place = index_of(decls, name);
-    if place < states.len() {
-        states[place].copy(alloc)
-    } else {
-        Ok(State::Fine(Value::Unit))
-    }
-}
+use value_core::{ListOf, NoMemory, Text, Value};
 
 /// The value that was bound to the name last.
 pub(crate) fn value_of(alloc: Global, bound: &[Binding], name: &Text) -> Result<Value, NoMemory>

@@ -1,10 +1,7 @@
-//! Terms with their states, wants and ticks, worked by hand.
+//! Lookups, which no run of the program shows yet: states, wants and ticks, worked by hand.
 ghost use Rattle.std.specs.Prelude.{◌≡◌, ◌<◌};
 
-use crate::{
-    Entries, Entry, Evaluated, FailKind, Fresh, InputDecl, NodeDecl, Program, Term, eval_node,
-    fresh_states,
-};
+use crate::{Entries, Entry, Evaluated, InputDecl, NodeDecl, Program, Term, eval_node};
 use op_keys::{Expiry, Level, OpDecl};
 use sqlite_items::Boxed;
 use std::alloc::Global;
@@ -12,9 +9,7 @@ use std::marker::Brand;
 use std::process::Abort;
 use std::sync::ledger::{Blank, Ledger};
 use std::test::Fail;
-use value_core::{
-    Fun, ListOf, NoMemory, Stage, State, Steps, Text, TextFault, Triple, Value, text_of,
-};
+use value_core::{ListOf, NoMemory, Stage, State, Steps, Text, TextFault, Triple, Value, text_of};
 
 /// Entries that know one triple; every other one is ready.
 #[derive(Drop)]
@@ -27,13 +22,13 @@ impl Entries for OneKnown {
     ghost use Rattle.std.specs.Prelude.{[], ◌∷◌};
     ghost use Rattle.term_core.specs.declared.entries.Entry.TheVariants as entry;
 
-    ghost world = { λ k. record { entries = (k.known, entry.Active k.stage) ∷ []; unstarted = [] } };
+    ghost world = { λ k. record {
+      entries = (k.known, entry.Active k.stage) ∷ [];
+      unstarted = [];
+    } };
 
     fn entry(&self, _alloc: Global, triple: &Triple) -> Result<Entry, NoMemory> {
-        let is_known = self.known.op == triple.op
-            && self.known.key.is(&triple.key)
-            && self.known.value.is(&triple.value);
-        if is_known {
+        if self.known.is(triple) {
             Ok(Entry::Active(self.stage))
         } else {
             Ok(Entry::Active(Stage::Ready))
@@ -49,27 +44,11 @@ fn words(alloc: Global, of: &str) -> Result<Term, Fail> {
     Ok(Term::Return(Value::Words(text(alloc, of)?)))
 }
 
-fn failing(alloc: Global, message: &str) -> Result<Term, Fail> {
-    Ok(Term::Fail {
-        kind: FailKind::Unit,
-        message: text(alloc, message)?,
-    })
-}
-
 fn build(alloc: Global, op: &str, key: Term) -> Result<Term, Fail> {
     Ok(Term::Build {
         op: text(alloc, op)?,
         key: Boxed::new(alloc, key)?,
     })
-}
-
-fn pair(alloc: Global, a: Term, b: Term) -> Result<Term, NoMemory> {
-    Ok(Term::Pair(Boxed::new(alloc, a)?, Boxed::new(alloc, b)?))
-}
-
-fn map(alloc: Global, fun: Fun, term: Term) -> Result<Term, NoMemory> {
-    let term = Boxed::new(alloc, term)?;
-    Ok(Term::Map { fun, term })
 }
 
 /// The body, under each item of the input `xs`, as `x`.
@@ -174,7 +153,7 @@ fn pipeline(alloc: Global, nodes: ListOf<NodeDecl>) -> Result<Program, Fail> {
 }
 
 /// A state in words, without its origin.
-fn told(alloc: Global, state: &State) -> Result<Text, Fail> {
+fn shown_state(alloc: Global, state: &State) -> Result<Text, Fail> {
     match state {
         State::Fine(value) => Ok(text_of(alloc, value)?),
         State::Failed { origin: _, message } => Ok(message.copy(alloc)?),
@@ -201,7 +180,7 @@ fn running(alloc: Global) -> Result<OneKnown, Fail> {
     })
 }
 
-/// Evaluates node 1 of the pipeline, where the build `make` of `a` is running and all else is ready.
+/// Evaluates node 1 of the pipeline. The build `make` of `a` is running, and all else is ready.
 fn second_node<L: Ledger>(
     alloc: Global,
     program: &Program,
@@ -222,7 +201,7 @@ fn second_node<L: Ledger>(
     Ok((came, steps.shown()))
 }
 
-/// Evaluates the term in node 1, behind the node `first`, which is 7.
+/// Evaluates the term in node 1, after the node `first`, which is 7.
 fn evaluated(alloc: Global, term: Term) -> Result<(Evaluated, u64), Fail> {
     let program = pipeline(alloc, nodes(alloc, term)?)?;
     let values = one(alloc, letters(alloc)?)?;
@@ -245,7 +224,7 @@ fn expect(
     ticks: u64,
 ) -> Result<(), Fail> {
     let (came, shown) = evaluated(alloc, term)?;
-    assert_eq!(rt; told(alloc, &came.state)?.as_str(), state);
+    assert_eq!(rt; shown_state(alloc, &came.state)?.as_str(), state);
     assert_eq!(rt; came.wants.len(), keys.len(), "wants of {state}");
     for (want, key) in came.wants.as_slice().iter().zip(keys) {
         assert_eq!(rt; want.key.as_str(), *key);
@@ -255,70 +234,11 @@ fn expect(
 }
 
 #[test]
-fn leaves_come_to_what_they_name(rt: HostRuntime) -> Result<(), Fail> {
-    let alloc = rt.alloc();
-    expect(&rt, alloc, words(alloc, "w")?, "\"w\"", &[], 1)?;
-    expect(&rt, alloc, failing(alloc, "no")?, "no", &[], 1)?;
-    expect(
-        &rt,
-        alloc,
-        Term::Input(text(alloc, "xs")?),
-        "[\"a\", \"b\"]",
-        &[],
-        1,
-    )?;
-    expect(&rt, alloc, Term::Node(text(alloc, "first")?), "7", &[], 1)
-}
-
-#[test]
-fn a_failure_comes_before_an_active_state(rt: HostRuntime) -> Result<(), Fail> {
-    let alloc = rt.alloc();
-    let both = pair(alloc, words(alloc, "w")?, Term::Return(Value::Num(7)))?;
-    expect(&rt, alloc, both, "(\"w\", 7)", &[], 3)?;
-    let one = build(alloc, "make", words(alloc, "a")?)?;
-    let mixed = pair(alloc, one, failing(alloc, "no")?)?;
-    expect(&rt, alloc, mixed, "no", &["a"], 4)
-}
-
-#[test]
 fn a_body_sees_each_item(rt: HostRuntime) -> Result<(), Fail> {
     let alloc = rt.alloc();
     let body = build(alloc, "make", Term::Var(text(alloc, "x")?))?;
     let term = each_letter(alloc, body)?;
     expect(&rt, alloc, term, "running", &["a", "b"], 6)
-}
-
-#[test]
-fn a_list_term_without_values_is_unit(rt: HostRuntime) -> Result<(), Fail> {
-    let alloc = rt.alloc();
-    let list = Boxed::new(alloc, Term::Input(text(alloc, "xs")?))?;
-    let body = Boxed::new(alloc, Term::Return(Value::Unit))?;
-    let name = text(alloc, "x")?;
-    expect(
-        &rt,
-        alloc,
-        Term::ListIter { name, list, body },
-        "()",
-        &[],
-        4,
-    )
-}
-
-#[test]
-fn a_bound_value_is_looked_up(rt: HostRuntime) -> Result<(), Fail> {
-    let alloc = rt.alloc();
-    let body = build(alloc, "make", Term::Var(text(alloc, "x")?))?;
-    let body = Boxed::new(alloc, body)?;
-    let left = Boxed::new(alloc, words(alloc, "b")?)?;
-    let name = text(alloc, "x")?;
-    expect(
-        &rt,
-        alloc,
-        Term::Bind { name, left, body },
-        "ready",
-        &["b"],
-        4,
-    )
 }
 
 #[test]
@@ -335,123 +255,4 @@ fn an_output_is_wanted_by_its_key(rt: HostRuntime) -> Result<(), Fail> {
         &["k"],
         3,
     )
-}
-
-/// How many lines a text of so many lines has, as a term.
-fn lines_counted(alloc: Global, count: usize) -> Result<Term, Fail> {
-    let mut bytes = Vec::new(alloc);
-    for _ in 0..count {
-        bytes.push(b'a')?;
-        bytes.push(b'\n')?;
-    }
-    let lines = Term::Return(Value::Words(Text::as_text(alloc, bytes.as_slice())?));
-    Ok(map(alloc, Fun::Count, map(alloc, Fun::Lines, lines)?)?)
-}
-
-#[test]
-fn a_function_that_fails_is_the_end_of_its_term(rt: HostRuntime) -> Result<(), Fail> {
-    let alloc = rt.alloc();
-    expect(&rt, alloc, lines_counted(alloc, 256)?, "256", &[], 3)?;
-    expect(
-        &rt,
-        alloc,
-        lines_counted(alloc, 257)?,
-        "list too long",
-        &[],
-        3,
-    )
-}
-
-/// A list of nine texts of 65,536 bytes, which weighs 589,834.
-fn large_list(alloc: Global) -> Result<Value, Fail> {
-    let mut items = ListOf::new(alloc);
-    for _ in 0..9 {
-        let bytes = vec![in alloc; b'x'; 65_536]?;
-        items.push(Value::Words(Text::as_text(alloc, bytes.as_slice())?))?;
-    }
-    Ok(Value::List(items))
-}
-
-#[test]
-fn a_list_that_weighs_too_much_fails(rt: HostRuntime) -> Result<(), Fail> {
-    let alloc = rt.alloc();
-    let term = each_letter(alloc, Term::Return(large_list(alloc)?))?;
-    expect(&rt, alloc, term, "value too large", &[], 4)
-}
-
-/// All states of a pipeline over the letters, where the build `make` of `a` is running.
-fn all_states<L: Ledger>(alloc: Global, program: &Program, blank: Blank) -> Result<Fresh, Fail>
-    requires name { blank.name ≡ L.name }
-    requires parts { blank.parts ≡ L.parts }
-    requires some { 0 < blank.parts }
-{
-    let entries = running(alloc)?;
-    let values = one(alloc, letters(alloc)?)?;
-    let mut steps = Steps::<L>::new(blank);
-    if program.nodes.len() > 3 || program.ops.len() > 3 {
-        return Err("no such program")?;
-    }
-    let values = values.as_slice();
-    Ok(fresh_states(alloc, program, values, &entries, &mut steps)?)
-}
-
-#[test]
-fn a_copied_pipeline_comes_to_the_same_states(rt: HostRuntime) -> Result<(), Fail> {
-    let alloc = rt.alloc();
-    let program = pipeline(alloc, nodes(alloc, Term::Node(text(alloc, "first")?))?)?;
-    let copy = program.copy(alloc)?;
-    let fresh = all_states::<Brand>(alloc, &copy, Blank::new(1))?;
-    assert_eq!(rt; (fresh.states.len(), fresh.wants.len()), (2, 0));
-    for state in fresh.states.as_slice() {
-        assert_eq!(rt; told(alloc, state)?.as_str(), "7");
-    }
-    Ok(())
-}
-
-#[test]
-fn a_gate_wants_what_both_sides_want(rt: HostRuntime) -> Result<(), Fail> {
-    let alloc = rt.alloc();
-    let second = build(alloc, "make", words(alloc, "b")?)?;
-    let held = Term::Gate(
-        Boxed::new(alloc, failing(alloc, "no")?)?,
-        Boxed::new(alloc, second)?,
-    );
-    expect(&rt, alloc, held, "no", &["b"], 4)
-}
-
-#[test]
-fn an_active_state_is_an_outcome_where_it_is_told(rt: HostRuntime) -> Result<(), Fail> {
-    let alloc = rt.alloc();
-    let one = build(alloc, "make", words(alloc, "a")?)?;
-    expect(
-        &rt,
-        alloc,
-        Term::State(Boxed::new(alloc, one)?),
-        "active",
-        &["a"],
-        3,
-    )?;
-    let two = build(alloc, "make", words(alloc, "b")?)?;
-    expect(
-        &rt,
-        alloc,
-        Term::Catch(Boxed::new(alloc, two)?),
-        "ready",
-        &["b"],
-        3,
-    )?;
-    let caught = Term::Catch(Boxed::new(alloc, failing(alloc, "no")?)?);
-    expect(&rt, alloc, caught, "failed(\"no\")", &[], 2)
-}
-
-#[test]
-fn an_order_too_long_is_not_wanted(rt: HostRuntime) -> Result<(), Fail> {
-    let alloc = rt.alloc();
-    let mut bytes = Vec::new(alloc);
-    for _ in 0..50_001 {
-        bytes.push(b'x')?;
-    }
-    let key = Text::as_text(alloc, bytes.as_slice())?;
-    let long = build(alloc, "wide", Term::Return(Value::Words(key)))?;
-    expect(&rt, alloc, long, "order too long", &[], 2)
 }

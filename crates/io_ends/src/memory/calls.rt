@@ -1,6 +1,7 @@
 //! Calls that are to fail.
 
-ghost use Rattle.std.specs.Prelude.{◌≡◌, ◌↔◌, ◌+◌, ◌-◌, ◌^◌, ◌≤◌, min, IsTrue, Contains};
+ghost use Rattle.std.specs.Prelude.{◌≡◌, ◌↔◌, ◌≤◌, IsTrue, Contains};
+ghost use Rattle.io_ends.specs.Causes.{raised};
 ghost use Rattle.std.specs.Bool.{OnTrue, OnFalse};
 
 /// Counts the calls of an end, and knows which of them are to fail.
@@ -25,11 +26,11 @@ impl FailingCalls {
 
     /// Counts one more call. Where it is to fail, that is one more fault.
     pub fn next_fails(&mut self) -> bool
-        ensures counted { self.new.calls ≡ min (self.old.calls + 1) (2 ^ 64 - 1) }
+        ensures counted { self.new.calls ≡ raised self.old.calls }
         ensures listed { IsTrue result ↔ Contains self.old.numbers.items self.new.calls }
         ensures same { self.new.numbers ≡ self.old.numbers }
         ensures later { self.old.faults ≤ self.new.faults }
-        ensures fault { OnTrue result (self.new.faults ≡ min (self.old.faults + 1) (2 ^ 64 - 1)) }
+        ensures fault { OnTrue result (self.new.faults ≡ raised self.old.faults) }
         ensures none { OnFalse result (self.new.faults ≡ self.old.faults) }
     {
         self.calls = self.calls.saturating_add(1);
@@ -43,7 +44,7 @@ impl FailingCalls {
     /// Counts a fault.
     pub fn count_fault(&mut self)
         ensures later { self.old.faults ≤ self.new.faults }
-        ensures counted { self.new ≡ record self.old { faults = min (self.old.faults + 1) (2 ^ 64 - 1) } }
+        ensures counted { self.new ≡ record self.old { faults = raised self.old.faults } }
     {
         self.faults = self.faults.saturating_add(1);
     }

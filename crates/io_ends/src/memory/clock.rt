@@ -5,7 +5,7 @@ ghost use Rattle.std.specs.Prelude.{◌≡◌, drop, Some};
 use crate::ends::Clock;
 
 /// Readings in order. After the last one it goes on with that, and with no reading it reads 0.
-#[derive(Debug, Drop)]
+#[derive(Clone, Debug, Drop)]
 pub struct ClockInMemory {
     readings: Vec<u64>,
     at: usize,

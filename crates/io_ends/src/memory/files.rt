@@ -1,9 +1,9 @@
 //! Files in memory.
 
-ghost use Rattle.std.specs.Prelude.{◌≡◌, ◌+◌, ◌-◌, ◌^◌, ◌<◌, ◌≤◌, min, length, take, Some, IfOk, IfSome, string_bytes};
+ghost use Rattle.std.specs.Prelude.{◌≡◌, ◌+◌, ◌<◌, ◌≤◌, length, take, Some, IfOk, IfSome};
 ghost use Rattle.std.specs.List.{position};
-ghost use Rattle.std.specs.Str.{bytes_eq};
-ghost use Rattle.io_ends.specs.Memory.{contents_at};
+ghost use Rattle.io_ends.specs.Causes.{raised};
+ghost use Rattle.io_ends.specs.Memory.{contents_at, has_path};
 
 use super::calls::FailingCalls;
 use super::held::HeldFile;
@@ -12,7 +12,7 @@ use std::alloc::{AllocError, Global};
 
 /// Where the first file stands that has the path.
 fn position_of(files: &[HeldFile], path: &str) -> Option<usize>
-    ensures first { result ≡ position (λ file. bytes_eq path.now (string_bytes file.path)) files.now }
+    ensures first { result ≡ position (has_path path.now) files.now }
     ensures bound { IfSome result (λ at. at < length files.now) }
 {
     files.iter().position(|file| path == file.path.as_str())
@@ -29,7 +29,7 @@ fn front_of(alloc: Global, content: &[u8], limit: usize) -> Result<Vec<u8>, Allo
     }
 }
 
-/// Files by their paths, each with its contents in order of the reads. It never fails but for want
+/// Files by their paths, each with its contents in order of the reads. It fails only when out
 /// of memory.
 #[derive(Debug, Drop)]
 pub struct SteadyFiles {
@@ -51,7 +51,7 @@ impl SteadyFiles {
     fn miss(&mut self) -> FileRead
         ensures missing { result ≡ FileRead.Missing }
         ensures later { self.old.misses ≤ self.new.misses }
-        ensures counted { self.new ≡ record self.old { misses = min (self.old.misses + 1) (2 ^ 64 - 1) } }
+        ensures counted { self.new ≡ record self.old { misses = raised self.old.misses } }
     {
         self.misses = self.misses.saturating_add(1);
         FileRead::Missing

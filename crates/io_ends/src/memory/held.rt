@@ -1,7 +1,7 @@
 //! A file in memory.
 
 ghost use Rattle.std.specs.Prelude.{◌≡◌};
-ghost use Rattle.io_ends.specs.Told.{contents_later};
+ghost use Rattle.io_ends.specs.Known.{contents_later};
 
 /// A path, and the contents that its reads will find, in order; the last one stays.
 #[derive(Debug, Drop)]

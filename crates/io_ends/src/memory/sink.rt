@@ -68,7 +68,7 @@ impl Sink for SinkInMemory {
 }
 
 /// Takes all that is written and never fails. It keeps the bytes while its room lasts. Since that
-/// may end, it tells a caller of `Sink` nothing; what it has kept is asked of itself.
+/// may end, it has no ghost record for a caller of `Sink`; what it has kept is asked of itself.
 #[derive(Debug, Drop)]
 pub struct SteadySink {
     bytes: Vec<u8>,
@@ -82,7 +82,10 @@ impl Model for SteadySink {
 
     ghost Value = { Kept };
 
-    ghost view = { λ s. record { bytes = (if s.is_whole then Some s.bytes.items else None); room = s.room } };
+    ghost view = { λ s. record {
+      bytes = if s.is_whole then Some s.bytes.items else None;
+      room = s.room;
+    } };
 
     ghost invariant = { λ s. (vec_len s.bytes ≤ s.room) × (s.room ≤ vec_capacity s.bytes) };
 }

@@ -1,12 +1,12 @@
 //! A launcher in memory.
-ghost use Rattle.std.specs.Prelude.{◌≡◌, ◌≤◌, [], ◌∷◌, Some, IfOk, OnOk, OnErr};
-ghost use Rattle.launch_core.specs.Launching.{HasWords, Grows, CountsFault};
+ghost use Rattle.std.specs.Prelude.{◌≡◌, ◌≤◌, [], Some, IfOk, OnOk, OnErr};
+ghost use Rattle.launch_core.specs.Launching.{HasWords, AddsRun, CountsFault};
 ghost use Rattle.launch_core.specs.Memory.{next_exit, exits_later};
 
-use crate::copying::{copy_of_exit, copy_of_order};
+use crate::copying::{copy_of_exit, copy_of_exits, copy_of_order, copy_of_runs};
 use crate::launcher::Launcher;
 use op_keys::{Exit, Order};
-use std::alloc::Global;
+use std::alloc::{AllocError, Global};
 use std::marker::Model;
 use value_core::{ListOf, NoMemory};
 
@@ -14,6 +14,7 @@ use value_core::{ListOf, NoMemory};
 /// to fail, and once all are answered each run fails.
 #[derive(Drop)]
 pub struct LauncherInMemory {
+    alloc: Global,
     exits: Vec<Exit>,
     runs: ListOf<(Order, Exit)>,
     faults: u64,
@@ -33,6 +34,7 @@ impl LauncherInMemory {
         ensures { result ≡ record { exits = exits.items; runs = []; faults = 0 } }
     {
         LauncherInMemory {
+            alloc,
             exits,
             runs: ListOf::new(alloc),
             faults: 0,
@@ -63,6 +65,19 @@ fn copy_of_next(alloc: Global, exits: &[Exit]) -> Result<Exit, NoMemory>
     }
 }
 
+impl Clone for LauncherInMemory {
+    ghost is_clone = { λ launcher copy. copy ≡ launcher };
+
+    fn clone(&self) -> Result<LauncherInMemory, AllocError> {
+        Ok(LauncherInMemory {
+            alloc: self.alloc,
+            exits: copy_of_exits(self.alloc, self.exits.as_slice())?,
+            runs: copy_of_runs(self.alloc, self.runs.as_slice())?,
+            faults: self.faults,
+        })
+    }
+}
+
 impl Launcher for LauncherInMemory {
     ghost runs = { λ s. Some s.runs };
 
@@ -72,7 +87,7 @@ impl Launcher for LauncherInMemory {
         requires { HasWords order.now }
         ensures next { IfOk result (λ exit. exit ≡ next_exit self.old.exits) }
         ensures taken { OnOk result (self.new.exits ≡ exits_later self.old.exits) }
-        ensures ran { IfOk result (λ exit. Grows (Some self.old.runs) (Some self.new.runs) ((order.now, exit) ∷ [])) }
+        ensures ran { AddsRun (Some self.old.runs) order.now result (Some self.new.runs) }
         ensures later { self.old.faults ≤ self.new.faults }
         ensures counted { CountsFault self.old.faults self.new.faults result }
         ensures err { OnErr result (self.new ≡ self.old) }

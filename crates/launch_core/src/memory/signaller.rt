@@ -7,7 +7,7 @@ use std::alloc::Global;
 use std::marker::Model;
 use value_core::NoMemory;
 
-/// Keeps the jobs that it tells, while its room lasts.
+/// Keeps the jobs that it signals, while its room lasts.
 #[derive(Debug, Drop)]
 pub struct SignallerInMemory {
     jobs: Vec<u64>,
@@ -21,15 +21,18 @@ impl Model for SignallerInMemory {
 
     ghost Value = { Kept };
 
-    ghost view = { λ s. record { jobs = (if s.is_whole then Some s.jobs.items else None); room = s.room } };
+    ghost view = { λ s. record {
+      jobs = if s.is_whole then Some s.jobs.items else None;
+      room = s.room;
+    } };
 
     ghost invariant = { λ s. (vec_len s.jobs ≤ s.room) × (s.room ≤ vec_capacity s.jobs) };
 }
 
 impl SignallerInMemory {
-    /// Room for so many jobs. None was told.
+    /// Room for so many jobs. None was signalled.
     pub fn new(alloc: Global, room: usize) -> Result<SignallerInMemory, NoMemory>
-        ensures { IfOk result (λ signaller. signaller ≡ record { jobs = Some []; room = room }) }
+        ensures { IfOk result (λ s. s ≡ record { jobs = Some []; room = room }) }
     {
         Ok(SignallerInMemory {
             jobs: Vec::with_capacity(alloc, room)?,
@@ -38,7 +41,7 @@ impl SignallerInMemory {
         })
     }
 
-    /// The jobs that were told, unless they are more than there is room for.
+    /// The jobs that were signalled, unless they are more than there is room for.
     pub fn jobs(&self) -> Option<&[u64]>
         ensures { option_copied result ≡ self.now.jobs }
     {
@@ -47,7 +50,7 @@ impl SignallerInMemory {
 }
 
 impl Signaller for SignallerInMemory {
-    ghost told = { λ s. s.jobs };
+    ghost signalled = { λ s. s.jobs };
 
     fn signal(&mut self, job: u64)
         ensures { self.new ≡ record self.old { jobs = kept_with self.old job } }

@@ -12,6 +12,7 @@ invariant-loop-at g l =
       no_newline : NoneBelow (length l.line.items) l.line.items;
       fits : length l.line.items ≤ line_limit;
       spent : s.budget l.source + length l.line.items + length l.piece ≤ s.budget l.fn.source + length l.fn.piece;
+      sink_side : s.sink_side l.source ≡ s.sink_side l.fn.source;
       no_fault : s.faults l.source ≡ s.faults l.fn.source;
     }
 

@@ -13,5 +13,6 @@ loop-piece-preserved g c =
     record {
       drops = λ after d. c.loop-piece.invariant.drops _ (dropped_past _ _ _ c.refill.new.self c.in_ok-refill.ensures.same none d);
       spent = omega (arith, c.refill.ensures.spent);
+      sink_side = search rules;
       no_fault = search rules;
     }

@@ -9,6 +9,7 @@ invariant-loop-piece g l =
     record {
       drops : (after : Option (List ℕ)) → DropsLine (s.left l.source) after → DropsLine (s.left l.fn.source) after;
       spent : s.budget l.source ≤ s.budget l.fn.source;
+      sink_side : s.sink_side l.source ≡ s.sink_side l.fn.source;
       no_fault : s.faults l.source ≡ s.faults l.fn.source;
     }
 

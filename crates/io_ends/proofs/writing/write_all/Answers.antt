@@ -8,5 +8,6 @@ loop-done-preserved g c =
     record {
       in_range = front_in c.args.bytes.now c.loop-done.done c.in_ok-done.field-0 i.in_range c.in_ok-done.ensures.bound;
       so_far = appends_more _ _ _ _ _ _ i.so_far c.in_ok-done.ensures.bytes (front_more c.args.bytes.now c.loop-done.done c.in_ok-done.field-0);
+      source_side = search rules;
       no_fault = search rules;
     }

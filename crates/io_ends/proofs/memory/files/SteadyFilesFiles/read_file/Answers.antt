@@ -1,5 +1,5 @@
 use Rattle.std.proofs.Common.{◌∙◌, sym, ap}
-use Rattle.io_ends.specs.Told.{content_now}
+use Rattle.io_ends.specs.Known.{content_now}
 use Rattle.io_ends.proofs.HeldFiles.{stands_at, contents_at-none, contents_at-first, contents_at-set, contents_at-kept, contents_of-none, content_now-first}
 use Rattle.io_ends.proofs.memory.files.SteadyFilesFiles.read_file.Goals as goal
 
