@@ -21,6 +21,7 @@ use Rattle.term_core.specs.declared.program.Program.{Program}
 use Rattle.sched_rows.specs.declared.row.Row.{Row}
 use Rattle.sched_rows.specs.RowKeys.{RowKey, key_of, row_key, row_key_cmp, row_key_cmp_total}
 use Rattle.sched_rows.specs.Rows.{Rows, marked}
+use Rattle.sched_rows.proofs.KeyOrders.{row_keys_tie}
 use Rattle.fair_pool.specs.declared.ticket.Ticket.{Ticket}
 use Rattle.fair_pool.specs.Fair.{Fair, ticket_of, with_hint, with_hint_of}
 use Rattle.fair_pool.specs.Hints.{HintKey, HintWorkers, hint_key_cmp, hint_key_total}
@@ -42,7 +43,7 @@ use Rattle.core_rules.specs.Openings.{Durable, IsDurable, IsOpenable, IsRowOpena
 use Rattle.core_rules.specs.Orders.{finish, finish_by, leave, picked, result_row, take_by, take_job, take_pick, taken, voided}
 use Rattle.core_rules.specs.Settling.{created, dropped, is_unmarked, live_on, lost_marked, mark_lost, new_job, new_ticket, settle_for, stays, targets, wanted}
 use Rattle.core_rules.specs.Steps.{Accepted, at_time, change, step}
-use Rattle.core_rules.proofs.Helpers.{all_filter, all_push, chosen, row_keys_tie}
+use Rattle.core_rules.proofs.Helpers.{all_filter, all_push, chosen}
 use Rattle.core_rules.proofs.Moves.{Aside, Ended, Gone, Marked, Moved, Noted, Took, accepts}
 use Rattle.core_rules.proofs.Numbers.{frame_of, marked_number, next_bounded, now_bounded}
 use Rattle.core_rules.proofs.Rising.{all_map, all_with, found_in}

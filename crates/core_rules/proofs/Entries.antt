@@ -14,10 +14,12 @@ use Rattle.core_rules.specs.Core.{CoreState, op_of, unstarted}
 use Rattle.core_rules.specs.Entries.{entry_by, entry_in, job_of, known, row_at, row_triple, row_triples, with_value, world}
 use Rattle.core_rules.specs.declared.jobs.Job.{Job}
 use Rattle.op_keys.specs.declared.declarations.OpDecl.{OpDecl}
-use Rattle.sched_rows.specs.RowKeys.{RowKey, bytes_cmp, row_key, row_key_cmp}
+use Rattle.sched_rows.specs.RowKeys.{RowKey, row_key, row_key_cmp}
+use Rattle.sched_rows.proofs.KeyOrders.{row_keys_tie}
 use Rattle.sched_rows.specs.Rows.{Rows}
 use Rattle.sched_rows.specs.declared.row.Row.{Row}
-use Rattle.term_core.specs.World.{entry_of, found_in, same_triple, stage_or_ready}
+use Rattle.term_core.specs.World.{entry_of, found_in, stage_or_ready}
+use Rattle.value_core.specs.Orders.{same_triple}
 use Rattle.term_core.specs.declared.entries.Entry.{Entry}
 use Rattle.term_core.specs.declared.entries.Entry.TheVariants as entry
 
@@ -37,10 +39,7 @@ no_job (j ∷ js) t e = elim (same_triple j.triple t) as (λ b. (b || list_any (
 ] e
 
 keys_same : (a b : RowKey) → eq_by_cmp row_key_cmp a b ≡ true → (a.op ≡ b.op) × (a.key ≡ b.key)
-keys_same a b e =
-    let h = and_parts (is_eq (bytes_cmp a.op b.op)) (is_eq (bytes_cmp a.key b.key)) (tied_then (bytes_cmp a.op b.op) (bytes_cmp a.key b.key) ∙ e) in
-    let same = slice_cmp-IsAntisymmetric nat_cmp-IsAntisymmetric in
-    (same a.op b.op ((Equal-is (bytes_cmp a.op b.op)).0 h.0), same a.key b.key ((Equal-is (bytes_cmp a.key b.key)).0 h.1))
+keys_same a b e = let p = row_keys_tie a b e in (ap (λ k. k.op) p, ap (λ k. k.key) p)
 
 any_tail : {X : Type 0} (p : X → Bool) (b : Bool) (x : X) (xs : List X) → list_any p (cond b (x ∷ xs) xs) ≡ false → list_any p xs ≡ false
 any_tail p true x xs e = (or_parts (p x) (list_any p xs) e).1

@@ -4,13 +4,9 @@ use Rattle.std.proofs.lemmas.Bool.{cond_both, and_parts, and_from, eqb-true, eq-
 use Rattle.std.specs.Prelude.{filter, ◌==◌, option_and_then}
 use Rattle.std.specs.List.{AllByRecursion, find, list_any}
 use Rattle.std.specs.Str.{bytes_eq}
-use Rattle.std.specs.Cmp.{Equal-is}
 use Rattle.std.specs.Cmp.Lexicographic.{bytes_decides}
-use Rattle.std.specs.Ordering.{eq_by_cmp}
 use Rattle.value_core.specs.declared.state.Triple.{Triple}
-use Rattle.term_core.specs.World.{same_triple}
-use Rattle.sched_rows.proofs.KeyOrders.{row_key_cmp_tells}
-use Rattle.sched_rows.specs.RowKeys.{RowKey, row_key_cmp}
+use Rattle.value_core.specs.Orders.{same_triple}
 
 pub then_some : {A B : Type 0} (f : A → Option B) (o : Option A) (y : B) → option_and_then f o ≡ Some y → (x : A) × (o ≡ Some x) × (f x ≡ Some y)
 then_some f None y e = let h : ⊥ = cc in absurd h
@@ -70,8 +66,3 @@ all_filter P q (x ∷ xs) h = cond_both (q x) (x ∷ filter q xs) (filter q xs) 
 pub all_push : {X : Type 0} (P : X → Type 0) (xs : List X) (x : X) → AllByRecursion P xs → P x → AllByRecursion P (xs ++ x ∷ [])
 all_push P [] x h p = (p, tt)
 all_push P (y ∷ xs) x h p = (h.0, all_push P xs x h.1 p)
-
--- ---- keys of rows
-
-pub row_keys_tie : (a b : RowKey) → eq_by_cmp row_key_cmp a b ≡ true → a ≡ b
-row_keys_tie a b e = row_key_cmp_tells a b ((Equal-is (row_key_cmp a b)).0 e)

@@ -11,7 +11,8 @@ use Rattle.core_rules.specs.Core.{CoreState, goes_on, op_of}
 use Rattle.core_rules.specs.Entries.{refs, wants}
 use Rattle.core_rules.specs.Laws.{IsReferred, IsReferredBy}
 use Rattle.core_rules.specs.declared.done.Done.{Done}
-use Rattle.core_rules.specs.Settling.{dropped, is_lost, is_unmarked, is_value, is_wanted, lost_marked, mark_lost, new_job, settle, settle_for, stays, target, targets, wanted}
+use Rattle.core_rules.specs.Settling.{dropped, is_lost, is_unmarked, is_value, lost_marked, mark_lost, new_job, settle, settle_for, stays, target, targets, wanted}
+use Rattle.term_core.specs.Counts.{is_wanted}
 use Rattle.core_rules.specs.Steps.{Accepted, step}
 use Rattle.core_rules.specs.declared.events.Event.{Event}
 use Rattle.core_rules.specs.declared.jobs.Job.{Job}

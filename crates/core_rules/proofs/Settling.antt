@@ -12,16 +12,20 @@ use Rattle.value_core.specs.declared.state.Triple.{Triple}
 use Rattle.core_rules.proofs.Entries.{world_entry}
 use Rattle.core_rules.proofs.Helpers.{find-push, find-push_new, then_some, triple_itself, triple_same, second_choice}
 use Rattle.core_rules.specs.Core.{CoreState, is_latched, may_start, op_of, stage, unstarted, when_allowed}
-use Rattle.core_rules.specs.Entries.{count_of, entry_by, entry_in, fresh_of, job_of, outcome, row_of, wants, world}
-use Rattle.core_rules.specs.Settling.{create, create_all, created, dropped, in_order, is_lost, is_served, is_valid, is_wanted, lost_marked, mark_lost, new_job, settle, settle_for, stays, targets, triple_cmp, wanted, with_triple}
+use Rattle.core_rules.specs.Entries.{entry_by, entry_in, fresh_of, job_of, outcome, row_of, wants, world}
+use Rattle.term_core.specs.Counts.{count_of}
+use Rattle.core_rules.specs.Settling.{create, create_all, created, dropped, is_lost, is_served, is_valid, lost_marked, mark_lost, new_job, settle, settle_for, stays, targets, wanted}
+use Rattle.term_core.specs.Counts.{in_order, is_wanted, with_triple}
+use Rattle.value_core.specs.Orders.{triple_cmp}
 use Rattle.core_rules.specs.declared.jobs.Job.{Job}
 use Rattle.op_keys.specs.declared.declarations.OpDecl.{OpDecl}
-use Rattle.sched_rows.specs.RowKeys.{bytes_cmp}
+use Rattle.value_core.specs.Orders.{bytes_cmp}
 use Rattle.sched_rows.specs.declared.row.Row.{Row}
 use Rattle.term_core.proofs.Agreeing.{fresh_local}
 use Rattle.term_core.specs.Fresh.{fresh}
 use Rattle.term_core.specs.Laws.{Agree}
-use Rattle.term_core.specs.World.{World, entry_of, same_triple}
+use Rattle.term_core.specs.World.{World, entry_of}
+use Rattle.value_core.specs.Orders.{same_triple}
 use Rattle.term_core.specs.declared.entries.Entry.TheVariants as entry
 
 -- ---- 1. jobs that go

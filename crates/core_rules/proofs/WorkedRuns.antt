@@ -28,7 +28,8 @@ use Rattle.core_rules.specs.Entries.{fresh_of, states, world}
 use Rattle.core_rules.specs.Openings.{Durable, latest, opened, start}
 use Rattle.core_rules.specs.declared.done.Done.{Done}
 use Rattle.core_rules.specs.Replies.{changed_from, next_alone, new_conflicts, with_numbers}
-use Rattle.core_rules.specs.Settling.{in_order, newly_marked, settle, settle_for}
+use Rattle.core_rules.specs.Settling.{newly_marked, settle, settle_for}
+use Rattle.term_core.specs.Counts.{in_order}
 use Rattle.core_rules.specs.Steps.{Refused, Accepted, answer, at_time, change, reply_of, settled_answer, step}
 use Rattle.core_rules.proofs.Entries.{world_entry}
 use Rattle.core_rules.proofs.RowLooks.{entry_found, entry_is, listed, listed_is, settle_found, settle_is}

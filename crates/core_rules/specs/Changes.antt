@@ -8,7 +8,7 @@ use Rattle.value_core.specs.Printed.{printed}
 use Rattle.value_core.specs.Values.{fits_kind}
 use Rattle.op_keys.specs.Names.{index_named}
 use Rattle.term_core.specs.declared.program.InputDecl.{InputDecl}
-use Rattle.term_core.specs.Soundness.{literal_kind}
+use Rattle.value_core.specs.Kinds.{literal_kind}
 use Rattle.sched_rows.specs.declared.row.Row.{Row}
 use Rattle.sched_rows.specs.RowKeys.{RowKey, key_of, row_key}
 use Rattle.sched_rows.specs.Rows.{marked}

@@ -9,8 +9,10 @@ use Rattle.value_core.specs.declared.state.Triple.{Triple}
 use Rattle.op_keys.specs.declared.declarations.OpDecl.{OpDecl}
 use Rattle.term_core.specs.declared.entries.Entry.{Entry}
 use Rattle.term_core.specs.declared.entries.Entry.TheVariants as entry
+use Rattle.term_core.specs.Counts.{count_of}
 use Rattle.term_core.specs.Fresh.{FreshRun, fresh}
-use Rattle.term_core.specs.World.{World, same_triple}
+use Rattle.term_core.specs.World.{World}
+use Rattle.value_core.specs.Orders.{same_triple}
 use Rattle.sched_rows.specs.declared.row.Row.{Row}
 use Rattle.sched_rows.specs.RowKeys.{RowKey, row_key}
 use Rattle.sched_rows.specs.Rows.{Rows}
@@ -84,11 +86,6 @@ states s = (fresh_of s).states
 -- the triples that are wanted, in order of evaluation, with repeats
 abbrev pub wants : CoreState → List Triple
 wants s = (fresh_of s).wants
-
--- how often a triple stands in a list
-abbrev pub count_of : List Triple → Triple → ℕ
-count_of [] t = 0
-count_of (u ∷ us) t = (if same_triple u t then 1 else 0) + count_of us t
 
 -- the references of a triple: how often it is wanted
 abbrev pub refs : CoreState → Triple → ℕ

@@ -25,7 +25,8 @@ use Rattle.core_rules.specs.Openings.{Durable, IsOpenable, start}
 use Rattle.core_rules.specs.Orders.{load, order_for, picked}
 use Rattle.core_rules.specs.Replays.{Leads, Replays}
 use Rattle.core_rules.specs.declared.done.Done.{Done}
-use Rattle.core_rules.specs.Settling.{is_unmarked, is_wanted, live_on, settle, settle_for}
+use Rattle.core_rules.specs.Settling.{is_unmarked, live_on, settle, settle_for}
+use Rattle.term_core.specs.Counts.{is_wanted}
 use Rattle.core_rules.specs.Steps.{Accepted, at_time, step}
 use Rattle.core_rules.specs.Stored.{durable, stored, with_delta}
 

@@ -5,7 +5,8 @@ use Rattle.value_core.specs.declared.state.Triple.{Triple}
 use Rattle.value_core.specs.Codes.{state_code}
 use Rattle.value_core.specs.Same.{same}
 use Rattle.core_rules.specs.declared.done.Delta.{Delta}
-use Rattle.core_rules.specs.Settling.{on_key, in_order}
+use Rattle.core_rules.specs.Settling.{on_key}
+use Rattle.term_core.specs.Counts.{in_order}
 
 -- the next number alone
 abbrev pub next_alone : ℕ → Delta

@@ -9,9 +9,9 @@ use Rattle.std.specs.Str.{bytes_eq}
 use Rattle.value_core.specs.declared.state.Triple.{Triple}
 use Rattle.op_keys.specs.declared.declarations.OpDecl.{OpDecl}
 use Rattle.op_keys.specs.Filling.{filled}
-use Rattle.term_core.specs.World.{same_triple}
+use Rattle.term_core.specs.Counts.{in_order, is_wanted}
 use Rattle.sched_rows.specs.declared.row.Row.{Row}
-use Rattle.sched_rows.specs.RowKeys.{bytes_cmp}
+use Rattle.value_core.specs.Orders.{bytes_cmp}
 use Rattle.sched_rows.specs.Validity.{valid}
 use Rattle.fair_pool.specs.declared.ticket.Ticket.{Ticket}
 use Rattle.fair_pool.specs.Fair.{Fair, ticketed, with_ticket}
@@ -22,24 +22,6 @@ use Rattle.core_rules.specs.Core.{CoreState, layout_of, op_of, expiry_of, goes_o
 use Rattle.core_rules.specs.Entries.{row_of, wants}
 
 -- ---- what is wanted
-
--- whether a triple is among the wanted ones
-abbrev pub is_wanted : List Triple → Triple → Bool
-is_wanted ws t = list_any (λ u. same_triple u t) ws
-
--- by operation, then by the key's bytes, then by the value's
-abbrev pub triple_cmp : Triple → Triple → Ordering
-triple_cmp a b = ordering_then (nat_cmp a.op b.op) (ordering_then (bytes_cmp a.key b.key) (bytes_cmp a.value b.value))
-
--- triples in order with one more in its place, unless it is there
-abbrev pub with_triple : Triple → List Triple → List Triple
-with_triple t [] = t ∷ []
-with_triple t (u ∷ us) = by_order (triple_cmp t u) (t ∷ u ∷ us) (u ∷ us) (u ∷ with_triple t us)
-
--- triples in order, each once
-abbrev pub in_order : List Triple → List Triple
-in_order [] = []
-in_order (t ∷ ts) = with_triple t (in_order ts)
 
 -- the wanted triples in order, each once
 abbrev pub wanted : CoreState → List Triple

@@ -1,5 +1,8 @@
 //! What happens to the core, and what refuses it.
+ghost use Rattle.std.specs.Prelude.{◌≡◌, IfOk};
+
 use op_keys::{Exit, Level};
+use std::alloc::Global;
 use value_core::{NoMemory, Stage, Text, Value};
 
 /// What happens.
@@ -29,11 +32,57 @@ pub enum What {
     Finish { job: u64, exit: Exit },
 }
 
+impl What {
+    /// An equal one.
+    pub fn copy(&self, alloc: Global) -> Result<What, NoMemory>
+        ensures { IfOk result (λ w. w ≡ self.now) }
+    {
+        match self {
+            What::SetInput { name, value } => Ok(What::SetInput {
+                name: name.copy(alloc)?,
+                value: value.copy(alloc)?,
+            }),
+            What::Tick => Ok(What::Tick),
+            What::SetLevel(threshold) => Ok(What::SetLevel(*threshold)),
+            What::Confirm(job) => Ok(What::Confirm(*job)),
+            What::Cancel(job) => Ok(What::Cancel(*job)),
+            What::Rebuild { op, key } => Ok(What::Rebuild {
+                op: op.copy(alloc)?,
+                key: key.copy(alloc)?,
+            }),
+            What::Pause(worker) => Ok(What::Pause(worker.copy(alloc)?)),
+            What::Resume(worker) => Ok(What::Resume(worker.copy(alloc)?)),
+            What::Rate { pool, client, rate } => Ok(What::Rate {
+                pool: pool.copy(alloc)?,
+                client: client.copy(alloc)?,
+                rate: *rate,
+            }),
+            What::Take(worker) => Ok(What::Take(*worker)),
+            What::Finish { job, exit } => Ok(What::Finish {
+                job: *job,
+                exit: exit.copy(alloc)?,
+            }),
+        }
+    }
+}
+
 /// What happens, at a reading of the clock in milliseconds since 1970.
 #[derive(Drop)]
 pub struct Event {
     pub at: u64,
     pub what: What,
+}
+
+impl Event {
+    /// An equal event.
+    pub fn copy(&self, alloc: Global) -> Result<Event, NoMemory>
+        ensures { IfOk result (λ e. e ≡ self.now) }
+    {
+        Ok(Event {
+            at: self.at,
+            what: self.what.copy(alloc)?,
+        })
+    }
 }
 
 /// Why an event changes nothing.

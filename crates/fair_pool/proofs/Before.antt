@@ -3,7 +3,7 @@ use Rattle.std.proofs.Common.{◌≡◌, ℕ, Bool, true, false, ◌&&◌, ◌||
 use Rattle.std.proofs.lemmas.Bool.Decides.{nat_tests}
 use Rattle.std.specs.Prelude.{if◌then◌else◌, nat_lt, ◌==◌}
 use Rattle.fair_pool.specs.Fair.{same_bool, comes_before, job_before}
-use Rattle.fair_pool.specs.Kept.{place_before}
+use Rattle.fair_pool.specs.Kept.{rank_before}
 use Rattle.fair_pool.proofs.Ordered.{IsBefore}
 use Rattle.fair_pool.specs.declared.ticket.Ticket.{Ticket}
 
@@ -41,8 +41,8 @@ comes_before_order = record {
   upto = λ a b c. sooner_upto a.urgent b.urgent c.urgent a.start b.start c.start a.job b.job c.job;
 }
 
-pub place_before_order : IsBefore place_before
-place_before_order = record {
+pub rank_before_order : IsBefore rank_before
+rank_before_order = record {
   asym = λ a b. sooner_asym a.urgent b.urgent a.start b.start a.job b.job;
   upto = λ a b c. sooner_upto a.urgent b.urgent c.urgent a.start b.start c.start a.job b.job c.job;
 }

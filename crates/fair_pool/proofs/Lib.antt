@@ -6,3 +6,4 @@ pub mod HintTable
 pub mod Picks
 pub mod Keeps
 pub mod ReadyFlags
+pub mod WorkedPicks

@@ -1,4 +1,4 @@
--- Lists in an order: where an item has its place, what it is to put one there and to take it away.
+-- Lists in an order: where an item has its rank, what it is to put one there and to take it away.
 use Rattle.std.proofs.Common.{◌≡◌, ℕ, zero, suc, ◌+◌, ◌<◌, ◌≤◌, Bool, true, false, cond, List, [], ◌∷◌, map, length, get_or, set, refl, sym, ap, ◌∙◌, subst, arith}
 use Rattle.std.proofs.lemmas.Bool.{cond_both, false≢true, true≢false}
 use Rattle.std.proofs.lemmas.List.{set-get_or}

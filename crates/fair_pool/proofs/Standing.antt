@@ -8,11 +8,11 @@ use Rattle.std.specs.Prelude.{insert, remove, nat_lt, ◌==◌}
 use Rattle.std.specs.List.{AllByRecursion}
 use Rattle.fair_pool.specs.Fair.{comes_before, job_before, ticket_of, has_ticket, with_ticket, without_ticket}
 use Rattle.fair_pool.specs.Flags.{with_flag, flagged, without_flag}
-use Rattle.fair_pool.specs.Kept.{rank_of, place_before, standing, queue_of, QueueState, with_queue, AreQueuesOf}
+use Rattle.fair_pool.specs.Kept.{rank_of, rank_before, standing, queue_of, QueueState, with_queue, AreQueuesOf}
 use Rattle.fair_pool.specs.Order.{leading, placed, displaced, in_order, Rises}
-use Rattle.fair_pool.proofs.Before.{comes_before_order, place_before_order, job_before_order, comes_before_other}
+use Rattle.fair_pool.proofs.Before.{comes_before_order, rank_before_order, job_before_order, comes_before_other}
 use Rattle.fair_pool.proofs.Ordered.{all_since, placed-placed, length_in_order, displaced-placed, leading-placed, map-placed, Rises-placed}
-use Rattle.fair_pool.specs.declared.ticket.Place.{Place}
+use Rattle.fair_pool.specs.declared.ticket.Rank.{Rank}
 use Rattle.fair_pool.specs.declared.ticket.Ticket.{Ticket}
 
 -- ---- jobs and their tickets
@@ -171,28 +171,28 @@ queue-insert pool (m ∷ ks) (s ∷ rs) (suc i) k r l n a =
 
 -- ---- the queues of all pools
 
-pub length-with_queue : (f : List Place → List Place) (n : ℕ) (qs : List QueueState) → length (with_queue f n qs) ≡ length qs
+pub length-with_queue : (f : List Rank → List Rank) (n : ℕ) (qs : List QueueState) → length (with_queue f n qs) ≡ length qs
 length-with_queue f n [] = refl
 length-with_queue f zero (q ∷ qs) = refl
 length-with_queue f (suc n) (q ∷ qs) = ap suc (length-with_queue f n qs)
 
--- a queue with its places changed
-abbrev changed_queue : (List Place → List Place) → QueueState → QueueState
-changed_queue f q = record q { places = f q.places }
+-- a queue with its ranks changed
+abbrev changed_queue : (List Rank → List Rank) → QueueState → QueueState
+changed_queue f q = record q { ranks = f q.ranks }
 
-at_same : (f : List Place → List Place) (n : ℕ) (qs : List QueueState) (d : QueueState) → n < length qs → get_or (with_queue f n qs) n d ≡ changed_queue f (get_or qs n d)
+at_same : (f : List Rank → List Rank) (n : ℕ) (qs : List QueueState) (d : QueueState) → n < length qs → get_or (with_queue f n qs) n d ≡ changed_queue f (get_or qs n d)
 at_same f n [] d l = absurd (omega arith)
 at_same f zero (q ∷ qs) d l = refl
 at_same f (suc n) (q ∷ qs) d l = at_same f n qs d (omega arith)
 
-at_other : (f : List Place → List Place) (n : ℕ) (qs : List QueueState) (pool : ℕ) (d : QueueState) → (n ≡ pool → ⊥) → get_or (with_queue f n qs) pool d ≡ get_or qs pool d
+at_other : (f : List Rank → List Rank) (n : ℕ) (qs : List QueueState) (pool : ℕ) (d : QueueState) → (n ≡ pool → ⊥) → get_or (with_queue f n qs) pool d ≡ get_or qs pool d
 at_other f n [] pool d o = refl
 at_other f zero (q ∷ qs) zero d o = absurd (o refl)
 at_other f zero (q ∷ qs) (suc pool) d o = refl
 at_other f (suc n) (q ∷ qs) zero d o = refl
 at_other f (suc n) (q ∷ qs) (suc pool) d o = at_other f n qs pool d (λ e. o (ap suc e))
 
-at_queue : (f : List Place → List Place) (n : ℕ) (qs : List QueueState) (pool : ℕ) (d : QueueState) → pool < length qs →
+at_queue : (f : List Rank → List Rank) (n : ℕ) (qs : List QueueState) (pool : ℕ) (d : QueueState) → pool < length qs →
     get_or (with_queue f n qs) pool d ≡ cond (n == pool) (changed_queue f (get_or qs pool d)) (get_or qs pool d)
 at_queue f n qs pool d l = elim (n == pool) as (λ b. (n == pool) ≡ b → get_or (with_queue f n qs) pool d ≡ cond b (changed_queue f (get_or qs pool d)) (get_or qs pool d)) [
   | true ↦ λ e. let same = eqb-true n pool e in subst (λ m. get_or (with_queue f m qs) pool d ≡ changed_queue f (get_or qs pool d)) (sym same) (at_same f pool qs d l)
@@ -200,63 +200,63 @@ at_queue f n qs pool d l = elim (n == pool) as (λ b. (n == pool) ≡ b → get_
 ] refl
 
 -- a queue that is written back
-pub set_queue : (f : List Place → List Place) (n : ℕ) (qs : List QueueState) (q r : QueueState) → n < length qs → q ≡ get_or qs n q → r ≡ changed_queue f q → set qs n r ≡ with_queue f n qs
+pub set_queue : (f : List Rank → List Rank) (n : ℕ) (qs : List QueueState) (q r : QueueState) → n < length qs → q ≡ get_or qs n q → r ≡ changed_queue f q → set qs n r ≡ with_queue f n qs
 set_queue f n [] q r l e h = refl
 set_queue f zero (x ∷ qs) q r l e h = ap (λ y. y ∷ qs) (h ∙ ap (changed_queue f) e)
 set_queue f (suc n) (x ∷ qs) q r l e h = ap (λ ys. x ∷ ys) (set_queue f n qs q r (omega arith) e h)
 
-pub room-with_queue : (f : List Place → List Place) (n : ℕ) (qs : List QueueState) (pool : ℕ) (d : QueueState) → (get_or (with_queue f n qs) pool d).room ≡ (get_or qs pool d).room
+pub room-with_queue : (f : List Rank → List Rank) (n : ℕ) (qs : List QueueState) (pool : ℕ) (d : QueueState) → (get_or (with_queue f n qs) pool d).room ≡ (get_or qs pool d).room
 room-with_queue f n [] pool d = refl
 room-with_queue f zero (q ∷ qs) zero d = refl
 room-with_queue f zero (q ∷ qs) (suc pool) d = refl
 room-with_queue f (suc n) (q ∷ qs) zero d = refl
 room-with_queue f (suc n) (q ∷ qs) (suc pool) d = room-with_queue f n qs pool d
 
--- each queue has the places of some tickets, and that of one more where it is ready and of the pool
+-- each queue has the ranks of some tickets, and that of one more where it is ready and of the pool
 abbrev pub Stand : (ℕ → List Ticket) → Ticket → Bool → List QueueState → Type 0
-Stand q k r qs = (pool : ℕ) (d : QueueState) → pool < length qs → (get_or qs pool d).places ≡ map rank_of (joined pool k r (q pool))
+Stand q k r qs = (pool : ℕ) (d : QueueState) → pool < length qs → (get_or qs pool d).ranks ≡ map rank_of (joined pool k r (q pool))
 
-places_placed : (k : Ticket) (ls : List Ticket) → map rank_of (placed comes_before k ls) ≡ placed place_before (rank_of k) (map rank_of ls)
-places_placed k ls = map-placed comes_before place_before rank_of (λ x y. refl) k ls
+places_placed : (k : Ticket) (ls : List Ticket) → map rank_of (placed comes_before k ls) ≡ placed rank_before (rank_of k) (map rank_of ls)
+places_placed k ls = map-placed comes_before rank_before rank_of (λ x y. refl) k ls
 
-put_in : (b : Bool) (k : Ticket) (q : QueueState) (ls : List Ticket) → q.places ≡ map rank_of ls →
-    (cond b (changed_queue (placed place_before (rank_of k)) q) q).places ≡ map rank_of (cond b (placed comes_before k ls) ls)
-put_in true k q ls e = ap (placed place_before (rank_of k)) e ∙ sym (places_placed k ls)
+put_in : (b : Bool) (k : Ticket) (q : QueueState) (ls : List Ticket) → q.ranks ≡ map rank_of ls →
+    (cond b (changed_queue (placed rank_before (rank_of k)) q) q).ranks ≡ map rank_of (cond b (placed comes_before k ls) ls)
+put_in true k q ls e = ap (placed rank_before (rank_of k)) e ∙ sym (places_placed k ls)
 put_in false k q ls e = e
 
-pub Stand-put : (q : ℕ → List Ticket) (k : Ticket) (qs : List QueueState) → Stand q k false qs → Stand q k true (with_queue (placed place_before (rank_of k)) k.pool qs)
+pub Stand-put : (q : ℕ → List Ticket) (k : Ticket) (qs : List QueueState) → Stand q k false qs → Stand q k true (with_queue (placed rank_before (rank_of k)) k.pool qs)
 Stand-put q k qs h pool d l =
-    let n = length-with_queue (placed place_before (rank_of k)) k.pool qs in
+    let n = length-with_queue (placed rank_before (rank_of k)) k.pool qs in
     let m : pool < length qs = omega arith in
-    ap (λ (x : QueueState). x.places) (at_queue (placed place_before (rank_of k)) k.pool qs pool d m) ∙ put_in (k.pool == pool) k (get_or qs pool d) (q pool) (h pool d m)
+    ap (λ (x : QueueState). x.ranks) (at_queue (placed rank_before (rank_of k)) k.pool qs pool d m) ∙ put_in (k.pool == pool) k (get_or qs pool d) (q pool) (h pool d m)
 
-take_out : (b : Bool) (k : Ticket) (q : QueueState) (ls : List Ticket) → q.places ≡ map rank_of (cond b (placed comes_before k ls) ls) →
-    (cond b (changed_queue (displaced place_before (rank_of k)) q) q).places ≡ map rank_of ls
-take_out true k q ls e = ap (displaced place_before (rank_of k)) (e ∙ places_placed k ls) ∙ displaced-placed place_before place_before_order (rank_of k) (map rank_of ls)
+take_out : (b : Bool) (k : Ticket) (q : QueueState) (ls : List Ticket) → q.ranks ≡ map rank_of (cond b (placed comes_before k ls) ls) →
+    (cond b (changed_queue (displaced rank_before (rank_of k)) q) q).ranks ≡ map rank_of ls
+take_out true k q ls e = ap (displaced rank_before (rank_of k)) (e ∙ places_placed k ls) ∙ displaced-placed rank_before rank_before_order (rank_of k) (map rank_of ls)
 take_out false k q ls e = e
 
-pub Stand-cut : (q : ℕ → List Ticket) (k : Ticket) (qs : List QueueState) → Stand q k true qs → Stand q k false (with_queue (displaced place_before (rank_of k)) k.pool qs)
+pub Stand-cut : (q : ℕ → List Ticket) (k : Ticket) (qs : List QueueState) → Stand q k true qs → Stand q k false (with_queue (displaced rank_before (rank_of k)) k.pool qs)
 Stand-cut q k qs h pool d l =
-    let n = length-with_queue (displaced place_before (rank_of k)) k.pool qs in
+    let n = length-with_queue (displaced rank_before (rank_of k)) k.pool qs in
     let m : pool < length qs = omega arith in
-    ap (λ (x : QueueState). x.places) (at_queue (displaced place_before (rank_of k)) k.pool qs pool d m) ∙ take_out (k.pool == pool) k (get_or qs pool d) (q pool) (h pool d m)
+    ap (λ (x : QueueState). x.ranks) (at_queue (displaced rank_before (rank_of k)) k.pool qs pool d m) ∙ take_out (k.pool == pool) k (get_or qs pool d) (q pool) (h pool d m)
 
--- the place of a ready ticket is found in the queue of its pool
+-- the rank of a ready ticket is found in the queue of its pool
 pub Stand-there : (q : ℕ → List Ticket) (k : Ticket) (qs : List QueueState) → Stand q k true qs → k.pool < length qs → (d : QueueState) →
-    leading (λ p. place_before p (rank_of k)) (get_or qs k.pool d).places < length (get_or qs k.pool d).places
+    leading (λ p. rank_before p (rank_of k)) (get_or qs k.pool d).ranks < length (get_or qs k.pool d).ranks
 Stand-there q k qs h l d =
-    let e : (get_or qs k.pool d).places ≡ placed place_before (rank_of k) (map rank_of (q k.pool)) =
+    let e : (get_or qs k.pool d).ranks ≡ placed rank_before (rank_of k) (map rank_of (q k.pool)) =
     h k.pool d l ∙ ap (λ b. map rank_of (cond b (placed comes_before k (q k.pool)) (q k.pool))) (eq-eqb k.pool k.pool refl) ∙ places_placed k (q k.pool) in
-    subst (λ ps. leading (λ p. place_before p (rank_of k)) ps < length ps) (sym e) (leading-placed place_before place_before_order (rank_of k) (map rank_of (q k.pool)))
+    subst (λ ps. leading (λ p. rank_before p (rank_of k)) ps < length ps) (sym e) (leading-placed rank_before rank_before_order (rank_of k) (map rank_of (q k.pool)))
 
--- what queues are of tickets one of which stands at a place
+-- what queues are of tickets one of which stands at a rank
 pub Stand-from : (ks : List Ticket) (rs : List Bool) (qs : List QueueState) (spare at : ℕ) (k : Ticket) (r : Bool) → at ≤ length ks → length rs ≡ length ks → AllByRecursion (λ (l : Ticket). (l.job == k.job) ≡ false) ks →
     AreQueuesOf (insert ks at k) (insert rs at r) spare qs → Stand (λ pool. queue_of pool ks rs) k r qs
-Stand-from ks rs qs spare at k r l n a h pool d m = (h pool d m).places ∙ ap (map rank_of) (queue-insert pool ks rs at k r l n a)
+Stand-from ks rs qs spare at k r l n a h pool d m = (h pool d m).ranks ∙ ap (map rank_of) (queue-insert pool ks rs at k r l n a)
 
 pub Stand-to : (ks : List Ticket) (rs : List Bool) (qs : List QueueState) (spare at : ℕ) (k : Ticket) (r : Bool) → at ≤ length ks → length rs ≡ length ks → AllByRecursion (λ (l : Ticket). (l.job == k.job) ≡ false) ks →
     Stand (λ pool. queue_of pool ks rs) k r qs → ((pool : ℕ) (d : QueueState) → pool < length qs → length ks + 1 + spare ≤ (get_or qs pool d).room) → AreQueuesOf (insert ks at k) (insert rs at r) spare qs
 Stand-to ks rs qs spare at k r l n a h room pool d m = record {
-  places = h pool d m ∙ ap (map rank_of) (sym (queue-insert pool ks rs at k r l n a));
+  ranks = h pool d m ∙ ap (map rank_of) (sym (queue-insert pool ks rs at k r l n a));
   room = let e = length-insert ks at k l in let f = room pool d m in omega arith;
 }

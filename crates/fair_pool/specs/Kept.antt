@@ -12,28 +12,28 @@ use Rattle.fair_pool.specs.Order.{in_order, Rises}
 use Rattle.fair_pool.specs.Pools.{PoolsState}
 use Rattle.fair_pool.specs.Sound.{IsLayoutSound}
 use Rattle.fair_pool.specs.declared.ticket.HintWorker.{HintWorker}
-use Rattle.fair_pool.specs.declared.ticket.Place.{Place}
+use Rattle.fair_pool.specs.declared.ticket.Rank.{Rank}
 use Rattle.fair_pool.specs.declared.ticket.Ticket.{Ticket}
 
 -- ---- queues
 
--- what of a ticket tells its place in a queue
-abbrev pub rank_of : Ticket → Place
+-- what of a ticket decides its rank in a queue
+abbrev pub rank_of : Ticket → Rank
 rank_of k = record { urgent = k.urgent; start = k.start; job = k.job }
 
--- whether a place comes before another, as tickets do
-abbrev pub place_before : Place → Place → Bool
-place_before a b = if same_bool a.urgent b.urgent then nat_lt a.start b.start || (a.start == b.start && nat_lt a.job b.job) else a.urgent
+-- whether a rank comes before another, as tickets do
+abbrev pub rank_before : Rank → Rank → Bool
+rank_before a b = if same_bool a.urgent b.urgent then nat_lt a.start b.start || (a.start == b.start && nat_lt a.job b.job) else a.urgent
 
--- a queue's places, and how many there is room for
+-- a queue's ranks, and how many there is room for
 pub record QueueState : Type 0 where
-  pub places : List Place
+  pub ranks : List Rank
   pub room : ℕ
 
--- the queues, where one has its places changed
-abbrev pub with_queue : (List Place → List Place) → ℕ → List QueueState → List QueueState
+-- the queues, where one has its ranks changed
+abbrev pub with_queue : (List Rank → List Rank) → ℕ → List QueueState → List QueueState
 with_queue change n [] = []
-with_queue change zero (q ∷ qs) = record q { places = change q.places } ∷ qs
+with_queue change zero (q ∷ qs) = record q { ranks = change q.ranks } ∷ qs
 with_queue change (suc n) (q ∷ qs) = q ∷ with_queue change n qs
 
 -- the ready tickets of a pool
@@ -45,9 +45,9 @@ standing pool _ _ = []
 abbrev pub queue_of : ℕ → List Ticket → List Bool → List Ticket
 queue_of pool ks rs = in_order comes_before (standing pool ks rs)
 
--- a pool's queue has the places of its ready tickets, and room for those of all tickets and more
+-- a pool's queue has the ranks of its ready tickets, and room for those of all tickets and more
 pub record IsQueueOf (ks : List Ticket) (rs : List Bool) (spare pool : ℕ) (q : QueueState) : Type 0 where
-  pub places : q.places ≡ map rank_of (queue_of pool ks rs)
+  pub ranks : q.ranks ≡ map rank_of (queue_of pool ks rs)
   pub room : length ks + spare ≤ q.room
 
 -- each pool has its queue
@@ -89,7 +89,7 @@ AreHintsKept hs = T (is_sorted hint_key_cmp (map hint_entry hs))
 abbrev pub IsKnownAt : HintKey → List HintWorker → ℕ → Type 0
 IsKnownAt k hs at = (at < length hs) × ((d : HintWorker) → hint_key_cmp (hint_key (slice_index_or hs at d)) k ≡ Equal)
 
--- where a hint that isn't among these has its place
+-- the index at which a hint that isn't among these would come in
 abbrev pub IsMissingAt : HintKey → List HintWorker → ℕ → Type 0
 IsMissingAt k hs at = (at ≤ length hs) × IsPartitionPoint (λ h. hint_key_cmp (hint_key h) k ≡ Less) (λ h. hint_key_cmp (hint_key h) k ≡ Greater) hs at
 
@@ -117,12 +117,12 @@ allows_found p now w None = false
 abbrev pub allows_job : PoolsState → ℕ → ℕ → ℕ → Bool
 allows_job p now w job = allows_found p now w (ticket_of job p.fair.tickets)
 
--- the first job of some places that passes a test
-abbrev pub first_job : (ℕ → Bool) → List Place → Option ℕ
+-- the first job of some ranks that passes a test
+abbrev pub first_job : (ℕ → Bool) → List Rank → Option ℕ
 first_job test [] = None
 first_job test (p ∷ ps) = if test p.job then Some p.job else first_job test ps
 
--- how many places are looked at for it
-abbrev pub looked_for : (ℕ → Bool) → List Place → ℕ
+-- how many ranks are looked at for it
+abbrev pub looked_for : (ℕ → Bool) → List Rank → ℕ
 looked_for test [] = 0
 looked_for test (p ∷ ps) = if test p.job then 1 else 1 + looked_for test ps

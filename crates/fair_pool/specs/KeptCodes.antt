@@ -4,17 +4,17 @@ use Rattle.std.specs.Coded.{Coded, code_by, coded×, coded_ℕ, coded_bool, code
 use Rattle.fair_pool.specs.Codes.{hint_workers_code, ticket_code}
 use Rattle.fair_pool.specs.Hints.{HintWorkers}
 use Rattle.fair_pool.specs.Kept.{HintsState, QueueState, WaitingState}
-use Rattle.fair_pool.specs.declared.ticket.Place.{Place}
+use Rattle.fair_pool.specs.declared.ticket.Rank.{Rank}
 use Rattle.fair_pool.specs.declared.ticket.Ticket.{Ticket}
-use Rattle.fair_pool.specs.contracts.ticket.Place as place
+use Rattle.fair_pool.specs.contracts.ticket.Rank as rank
 
--- the code of places in a queue
-abbrev pub place_code : Coded Place
-place_code = place.the_row.coded
+-- the code of ranks in a queue
+abbrev pub rank_code : Coded Rank
+rank_code = rank.the_row.coded
 
 -- the code of queues
 abbrev pub queue_code : Coded QueueState
-queue_code = code_by (List Place × ℕ) (coded× (coded_list place_code) coded_ℕ) (λ q. (q.places, q.room)) (λ p. record { places = p.0; room = p.1 }) (λ _. refl)
+queue_code = code_by (List Rank × ℕ) (coded× (coded_list rank_code) coded_ℕ) (λ q. (q.ranks, q.room)) (λ p. record { ranks = p.0; room = p.1 }) (λ _. refl)
 
 -- the code of tickets in their queues
 abbrev pub waiting_code : Coded WaitingState

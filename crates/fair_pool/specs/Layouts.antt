@@ -1,4 +1,4 @@
--- What is declared. Pools, clients and workers are told by their numbers in file order.
+-- What is declared. Pools, clients and workers are identified by their numbers in file order.
 use Rattle.std.specs.Prelude.{ℕ, nat_lt, if◌then◌else◌, List, length, map, Option, Some, None}
 use Rattle.op_keys.specs.Names.{index_named, client_index}
 use Rattle.op_keys.specs.declared.declarations.ClientDecl.{ClientDecl}

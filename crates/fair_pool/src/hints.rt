@@ -33,14 +33,14 @@ impl Model for Hints {
     ghost invariant = { λ h. AreHintsKept h.known.items };
 }
 
-/// How a hint stands to another.
+/// How a hint compares to another.
 fn compared(known: &HintWorker, pool: u32, hint: &Text) -> Ordering
     ensures { result ≡ hint_key_cmp (hint_key known.now) (record { pool = pool; hint = hint.now }) }
 {
     known.pool.cmp(&pool).then(known.hint.cmp(hint))
 }
 
-/// Where a hint stands among these, which are in order, or where it has its place.
+/// The index of a hint among these, which are in order, or the one at which it would come in.
 fn search(known: &[HintWorker], pool: u32, hint: &Text) -> Result<usize, usize>
     requires { AreHintsKept known.now }
     ensures { MatchResult result (IsKnownAt (record { pool = pool; hint = hint.now }) known.now) (IsMissingAt (record { pool = pool; hint = hint.now }) known.now) }

@@ -1,55 +1,17 @@
 //! What is declared, by names and by numbers.
-ghost use Rattle.std.specs.Prelude.{◌≡◌, ℕ, ◌<◌, ◌≤◌, List, length, map, slice_get, IfOk};
-ghost use Rattle.op_keys.specs.Names.{index_named, client_index};
+ghost use Rattle.std.specs.Prelude.{◌≡◌, ◌<◌, ◌≤◌, length, slice_get, IfOk};
+ghost use Rattle.op_keys.specs.Names.{client_index};
 ghost use Rattle.fair_pool.specs.Layouts.{pool_number, client_number, worker_number, worker_pool, capacity_of, hold_of};
 ghost use Rattle.fair_pool.specs.Sound.{IsLayoutSound};
 
-use op_keys::{ClientDecl, PoolDecl, WorkerDecl};
+use op_keys::{ClientDecl, PoolDecl, WorkerDecl, index_of};
 use std::alloc::Global;
 use std::marker::Model;
 use value_core::{NoMemory, Text};
 
-/// What has a name.
-pub(crate) trait Named {
-    /// Its name.
-    ghost named: { Self → List ℕ };
-
-    fn name(&self) -> &Text
-        ensures { result.now ≡ named self.now };
-}
-
-impl Named for PoolDecl {
-    ghost named = { λ d. d.name };
-
-    fn name(&self) -> &Text {
-        &self.name
-    }
-}
-
-impl Named for WorkerDecl {
-    ghost named = { λ d. d.name };
-
-    fn name(&self) -> &Text {
-        &self.name
-    }
-}
-
-/// The place of the first declaration of this name, or how many there are where none has it.
-fn index_of<D: Named>(decls: &[D], name: &str) -> usize
-    ensures place { result ≡ index_named 0 (map D.named decls.now) name.now }
-    ensures within { result ≤ length decls.now }
-{
-    for (i, decl) in decls.iter().enumerate() {
-        if decl.name().as_str() == name {
-            return i;
-        }
-    }
-    decls.len()
-}
-
-/// The place of the first client of this pool and name, or how many there are.
+/// The index of the first client of this pool and name, or how many there are.
 fn index_of_client(clients: &[ClientDecl], pool: &str, name: &str) -> usize
-    ensures place { result ≡ client_index 0 clients.now pool.now name.now }
+    ensures index { result ≡ client_index 0 clients.now pool.now name.now }
     ensures within { result ≤ length clients.now }
 {
     for (i, client) in clients.iter().enumerate() {

@@ -24,8 +24,8 @@ use value_core::{ListOf, NoMemory, Text};
 #[derive(Clone, Copy, Debug, PartialEq, Eq)]
 pub struct RateOutOfRange(pub u64);
 
-/// All pools of a pipeline. Pools, clients and workers are told by their numbers in file order,
-/// jobs by numbers of the caller's, and times are in milliseconds.
+/// All pools of a pipeline. Pools, clients and workers are identified by their numbers in file
+/// order, jobs by numbers of the caller's, and times are in milliseconds.
 #[derive(Drop)]
 pub struct Pools {
     alloc: Global,

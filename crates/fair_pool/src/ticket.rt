@@ -1,6 +1,6 @@
 //! What is kept of a queued job, and of a hint.
 ghost use Rattle.std.specs.Prelude.{◌≡◌, IfOk};
-ghost use Rattle.fair_pool.specs.Kept.{rank_of, place_before};
+ghost use Rattle.fair_pool.specs.Kept.{rank_of, rank_before};
 
 use std::alloc::Global;
 use value_core::{NoMemory, Text};
@@ -30,9 +30,9 @@ pub struct HintWorker {
     pub worker: u32,
 }
 
-/// What of a ticket tells its place in a queue.
+/// What of a ticket decides its rank in a queue.
 #[derive(Clone, Copy, Debug, PartialEq, Eq)]
-pub(crate) struct Place {
+pub(crate) struct Rank {
     pub(crate) urgent: bool,
     pub(crate) start: u64,
     pub(crate) job: u64,
@@ -62,10 +62,10 @@ impl Ticket {
         })
     }
 
-    pub(crate) fn place(&self) -> Place
+    pub(crate) fn rank(&self) -> Rank
         ensures { result ≡ rank_of self.now }
     {
-        Place {
+        Rank {
             urgent: self.urgent,
             start: self.start,
             job: self.job,
@@ -86,10 +86,10 @@ impl HintWorker {
     }
 }
 
-impl Place {
+impl Rank {
     /// Urgent before not urgent, then the smaller start, then the smaller job.
-    pub(crate) fn comes_before(&self, other: &Place) -> bool
-        ensures { result ≡ place_before self.now other.now }
+    pub(crate) fn comes_before(&self, other: &Rank) -> bool
+        ensures { result ≡ rank_before self.now other.now }
     {
         if self.urgent == other.urgent {
             self.start < other.start || self.start == other.start && self.job < other.job

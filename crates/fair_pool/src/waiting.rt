@@ -1,15 +1,15 @@
-//! Tickets in order of jobs, and the queues in which the ready ones stand.
+//! Tickets in order of jobs, and the queues of the ready ones.
 ghost use Rattle.std.specs.Prelude.{◌≡◌, ℕ, ◌+◌, ◌-◌, ◌<◌, ◌≤◌, [], max, true, false, nat_lt, map, length, slice_index_or, replicate, if◌then◌else◌, IfOk, OnOk, OnErr, Some, vec_len};
 ghost use Rattle.std.specs.Option.{option_copied};
 ghost use Rattle.std.specs.Vec.{vec_capacity};
 ghost use Rattle.fair_pool.specs.Fair.{ticket_of, has_ticket, with_ticket, without_ticket, job_before};
 ghost use Rattle.fair_pool.specs.Flags.{with_flag, flagged, without_flag};
-ghost use Rattle.fair_pool.specs.Kept.{rank_of, place_before, queue_of, with_queue, QueueState};
+ghost use Rattle.fair_pool.specs.Kept.{rank_of, rank_before, queue_of, with_queue, QueueState};
 ghost use Rattle.fair_pool.specs.Order.{leading, placed, displaced, Rises};
 
 use crate::queue::Queue;
 use crate::room::insert_within;
-use crate::ticket::{Place, Ticket};
+use crate::ticket::{Rank, Ticket};
 use std::alloc::{AllocError, Global};
 use std::marker::Model;
 use value_core::NoMemory;
@@ -21,7 +21,7 @@ pub(crate) struct Waiting {
     tickets: Vec<Ticket>,
     /// Whether each ticket's job is ready.
     ready: Vec<bool>,
-    /// For each pool the places of its ready tickets.
+    /// For each pool the ranks of its ready tickets.
     queues: Vec<Queue>,
     /// For how many more tickets there is room.
     spare: usize,
@@ -44,7 +44,7 @@ impl Model for Waiting {
 
 fn empty_queues(alloc: Global, count: usize) -> Result<Vec<Queue>, NoMemory>
     ensures len { IfOk result (λ qs. length qs.items ≡ count) }
-    ensures places { IfOk result (λ qs. (i : ℕ) (d : QueueState) → i < length qs.items → (slice_index_or qs.items i d).places ≡ []) }
+    ensures ranks { IfOk result (λ qs. (i : ℕ) (d : QueueState) → i < length qs.items → (slice_index_or qs.items i d).ranks ≡ []) }
 {
     let mut queues = Vec::new(alloc);
     for _n in 0..count {
@@ -54,9 +54,9 @@ fn empty_queues(alloc: Global, count: usize) -> Result<Vec<Queue>, NoMemory>
 }
 
 fn copy_of_queues(alloc: Global, queues: &[Queue], count: usize) -> Result<Vec<Queue>, NoMemory>
-    requires { (i : ℕ) (d : QueueState) → i < length queues.now → length (slice_index_or queues.now i d).places ≤ count }
+    requires { (i : ℕ) (d : QueueState) → i < length queues.now → length (slice_index_or queues.now i d).ranks ≤ count }
     ensures len { IfOk result (λ qs. length qs.items ≡ length queues.now) }
-    ensures places { IfOk result (λ qs. (i : ℕ) (d : QueueState) → i < length qs.items → (slice_index_or qs.items i d).places ≡ (slice_index_or queues.now i d).places) }
+    ensures ranks { IfOk result (λ qs. (i : ℕ) (d : QueueState) → i < length qs.items → (slice_index_or qs.items i d).ranks ≡ (slice_index_or queues.now i d).ranks) }
     ensures room { IfOk result (λ qs. (i : ℕ) (d : QueueState) → i < length qs.items → count ≤ (slice_index_or qs.items i d).room) }
 {
     let mut copies = Vec::new(alloc);
@@ -76,10 +76,10 @@ fn copy_of_tickets(alloc: Global, tickets: &[Ticket]) -> Result<Vec<Ticket>, NoM
     Ok(copies)
 }
 
-/// Makes room in each queue for so many places in all.
+/// Makes room in each queue for so many ranks in all.
 fn reserve_all(queues: &mut Vec<Queue>, count: usize) -> Result<(), NoMemory>
     ensures len { length queues.new.items ≡ length queues.old.items }
-    ensures places { (i : ℕ) (d : QueueState) → i < length queues.old.items → (slice_index_or queues.new.items i d).places ≡ (slice_index_or queues.old.items i d).places }
+    ensures ranks { (i : ℕ) (d : QueueState) → i < length queues.old.items → (slice_index_or queues.new.items i d).ranks ≡ (slice_index_or queues.old.items i d).ranks }
     ensures room { (i : ℕ) (d : QueueState) → i < length queues.old.items → (slice_index_or queues.old.items i d).room ≤ (slice_index_or queues.new.items i d).room }
     ensures ok { OnOk result ((i : ℕ) (d : QueueState) → i < length queues.old.items → count ≤ (slice_index_or queues.new.items i d).room) }
 {
@@ -90,27 +90,27 @@ fn reserve_all(queues: &mut Vec<Queue>, count: usize) -> Result<(), NoMemory>
     Ok(())
 }
 
-/// Adds a place to a pool's queue, where its job is ready; there is room for it.
-fn enqueue_ready(queues: &mut Vec<Queue>, pool: usize, place: Place, ready: bool)
+/// Adds a rank to a pool's queue, where its job is ready; there is room for it.
+fn enqueue_ready(queues: &mut Vec<Queue>, pool: usize, rank: Rank, ready: bool)
     requires pool { pool < length queues.old.items }
-    requires room { ready ≡ true → (d : QueueState) → length (slice_index_or queues.old.items pool d).places < (slice_index_or queues.old.items pool d).room }
-    ensures { queues.new.items ≡ (if ready then with_queue (placed place_before place) pool queues.old.items else queues.old.items) }
+    requires room { ready ≡ true → (d : QueueState) → length (slice_index_or queues.old.items pool d).ranks < (slice_index_or queues.old.items pool d).room }
+    ensures { queues.new.items ≡ (if ready then with_queue (placed rank_before rank) pool queues.old.items else queues.old.items) }
 {
     if ready {
         let queue = &mut queues[pool];
-        queue.add(place);
+        queue.add(rank);
     }
 }
 
-/// Takes a place from a pool's queue, where its job was ready.
-fn dequeue_ready(queues: &mut Vec<Queue>, pool: usize, place: Place, was_ready: bool)
+/// Takes a rank from a pool's queue, where its job was ready.
+fn dequeue_ready(queues: &mut Vec<Queue>, pool: usize, rank: Rank, was_ready: bool)
     requires pool { pool < length queues.old.items }
-    requires there { was_ready ≡ true → (d : QueueState) → leading (λ p. place_before p place) (slice_index_or queues.old.items pool d).places < length (slice_index_or queues.old.items pool d).places }
-    ensures { queues.new.items ≡ (if was_ready then with_queue (displaced place_before place) pool queues.old.items else queues.old.items) }
+    requires there { was_ready ≡ true → (d : QueueState) → leading (λ p. rank_before p rank) (slice_index_or queues.old.items pool d).ranks < length (slice_index_or queues.old.items pool d).ranks }
+    ensures { queues.new.items ≡ (if was_ready then with_queue (displaced rank_before rank) pool queues.old.items else queues.old.items) }
 {
     if was_ready {
         let queue = &mut queues[pool];
-        queue.remove(place);
+        queue.remove(rank);
     }
 }
 
@@ -142,7 +142,7 @@ impl Waiting {
     }
 
     /// How many tickets have a smaller job.
-    fn rank(&self, job: u64) -> usize
+    fn index_of(&self, job: u64) -> usize
         ensures { result ≡ leading (λ k. nat_lt k.job job) self.now.tickets }
     {
         self.tickets.as_slice().partition_point(
@@ -156,7 +156,7 @@ impl Waiting {
     pub(crate) fn find(&self, job: u64) -> Option<&Ticket>
         ensures { option_copied result ≡ ticket_of job self.now.tickets }
     {
-        let at = self.rank(job);
+        let at = self.index_of(job);
         if at < self.tickets.len() && self.tickets[at].job == job {
             Some(&self.tickets[at])
         } else {
@@ -164,13 +164,13 @@ impl Waiting {
         }
     }
 
-    /// The places of a pool's ready tickets, the next one first.
-    pub(crate) fn queue(&self, pool: usize) -> &[Place]
+    /// The ranks of a pool's ready tickets, the next one first.
+    pub(crate) fn queue(&self, pool: usize) -> &[Rank]
         requires { pool < self.now.pools }
-        ensures places { result.now ≡ map rank_of (queue_of pool self.now.tickets self.now.ready) }
+        ensures ranks { result.now ≡ map rank_of (queue_of pool self.now.tickets self.now.ready) }
         ensures rising { Rises job_before self.now.tickets }
     {
-        self.queues[pool].places()
+        self.queues[pool].ranks()
     }
 
     /// Adds a ticket, for which there is room.
@@ -180,10 +180,10 @@ impl Waiting {
         requires room { 0 < self.old.spare }
         ensures { self.new ≡ record self.old { tickets = with_ticket ticket self.old.tickets; ready = with_flag ticket.job ready self.old.tickets self.old.ready; spare = self.old.spare - 1 } }
     {
-        let at = self.rank(ticket.job);
+        let at = self.index_of(ticket.job);
         let pool = ticket.pool as usize;
-        let place = ticket.place();
-        enqueue_ready(&mut self.queues, pool, place, ready);
+        let rank = ticket.rank();
+        enqueue_ready(&mut self.queues, pool, rank, ready);
         insert_within(&mut self.tickets, at, ticket);
         insert_within(&mut self.ready, at, ready);
         self.spare -= 1;
@@ -194,15 +194,15 @@ impl Waiting {
         requires { has_ticket job self.old.tickets ≡ true }
         ensures { self.new ≡ record self.old { ready = flagged job ready self.old.tickets self.old.ready } }
     {
-        let at = self.rank(job);
+        let at = self.index_of(job);
         if self.ready[at] == ready {
             return;
         }
         let ticket = &self.tickets[at];
         let pool = ticket.pool as usize;
-        let place = ticket.place();
-        enqueue_ready(&mut self.queues, pool, place, ready);
-        dequeue_ready(&mut self.queues, pool, place, !ready);
+        let rank = ticket.rank();
+        enqueue_ready(&mut self.queues, pool, rank, ready);
+        dequeue_ready(&mut self.queues, pool, rank, !ready);
         self.ready[at] = ready;
     }
 
@@ -212,12 +212,12 @@ impl Waiting {
         ensures ticket { ticket_of job self.old.tickets ≡ Some result }
         ensures left { self.new ≡ record self.old { tickets = without_ticket job self.old.tickets; ready = without_flag job self.old.tickets self.old.ready } }
     {
-        let at = self.rank(job);
+        let at = self.index_of(job);
         let ticket = self.tickets.remove(at);
         let was_ready = self.ready.remove(at);
         let pool = ticket.pool as usize;
-        let place = ticket.place();
-        dequeue_ready(&mut self.queues, pool, place, was_ready);
+        let rank = ticket.rank();
+        dequeue_ready(&mut self.queues, pool, rank, was_ready);
         ticket
     }
 

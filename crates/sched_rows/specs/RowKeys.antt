@@ -2,8 +2,9 @@
 use Rattle.std.specs.Prelude.{ℕ, List}
 use Rattle.std.specs.declared.cmp.Ordering.{Ordering}
 use Rattle.std.specs.Cmp.{IsTotalOrder, on_total, then_total}
-use Rattle.std.specs.Cmp.Lexicographic.{slice_cmp, nat_list_cmp_total}
-use Rattle.std.specs.Ordering.{nat_cmp, on, then_cmp}
+use Rattle.std.specs.Cmp.Lexicographic.{nat_list_cmp_total}
+use Rattle.std.specs.Ordering.{on, then_cmp}
+use Rattle.value_core.specs.Orders.{bytes_cmp}
 use Rattle.sched_rows.specs.declared.row.Row.{Row}
 
 -- an operation's name and a key
@@ -14,10 +15,6 @@ pub record RowKey : Type 0 where
 -- the key of these two texts
 abbrev pub row_key : List ℕ → List ℕ → RowKey
 row_key op key = record { op = op; key = key }
-
--- two texts by their bytes
-abbrev pub bytes_cmp : List ℕ → List ℕ → Ordering
-bytes_cmp = slice_cmp nat_cmp
 
 -- by the operation's name, then by the key
 abbrev pub row_key_cmp : RowKey → RowKey → Ordering

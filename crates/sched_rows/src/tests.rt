@@ -59,7 +59,13 @@ fn a_row_expires_at_the_next_instant(rt: HostRuntime) -> Result<(), Fail> {
     expect_end(&rt, &mut row, daily(0, 0), 253_402_214_400_000, None);
     expect_end(&rt, &mut row, monthly(0), 0, Some(2_678_400_000));
     expect_end(&rt, &mut row, monthly(60), 0, Some(2_674_800_000));
-    expect_end(&rt, &mut row, monthly(0), 1_709_164_800_000, Some(1_709_251_200_000));
+    expect_end(
+        &rt,
+        &mut row,
+        monthly(0),
+        1_709_164_800_000,
+        Some(1_709_251_200_000),
+    );
     expect_end(&rt, &mut row, monthly(0), 253_402_214_400_000, None);
     Ok(())
 }

@@ -7,7 +7,7 @@ ghost use Rattle.fair_pool.specs.Order.{Rises};
 ghost use Rattle.fair_pool.specs.Pools.{pick_of, looked_of};
 
 use super::Pools;
-use crate::ticket::{Place, Ticket};
+use crate::ticket::{Rank, Ticket};
 use std::sync::ledger::Ledger;
 use value_core::Steps;
 
@@ -76,22 +76,22 @@ impl Pools {
         }
     }
 
-    /// The places of the ready tickets of a worker's pool, the next one first.
-    fn queue(&self, worker: u32) -> &[Place]
+    /// The ranks of the ready tickets of a worker's pool, the next one first.
+    fn queue(&self, worker: u32) -> &[Rank]
         requires { worker < length self.now.layout.workers }
-        ensures places { result.now ≡ map rank_of (queue_of (worker_pool self.now.layout (slice_get self.now.layout.workers worker)) self.now.fair.tickets self.now.ready) }
+        ensures ranks { result.now ≡ map rank_of (queue_of (worker_pool self.now.layout (slice_get self.now.layout.workers worker)) self.now.fair.tickets self.now.ready) }
         ensures rising { Rises job_before self.now.fair.tickets }
     {
         self.waiting.queue(self.declared.worker_pool(worker))
     }
 
     /// The first job of these that a worker may take.
-    fn first_allowed(&self, places: &[Place], worker: u32, now: u64) -> Option<u64>
-        ensures { result ≡ first_job (allows_job self.now now worker) places.now }
+    fn first_allowed(&self, ranks: &[Rank], worker: u32, now: u64) -> Option<u64>
+        ensures { result ≡ first_job (allows_job self.now now worker) ranks.now }
     {
-        for place in places {
-            if self.allows_job(place.job, worker, now) {
-                return Some(place.job);
+        for rank in ranks {
+            if self.allows_job(rank.job, worker, now) {
+                return Some(rank.job);
             }
         }
         None
@@ -100,18 +100,18 @@ impl Pools {
     /// The same, with a step for each that is looked at.
     fn first_counted<L: Ledger>(
         &self,
-        places: &[Place],
+        ranks: &[Rank],
         worker: u32,
         now: u64,
         steps: &mut Steps<L>,
     ) -> Option<u64>
-        ensures answer { result ≡ first_job (allows_job self.now now worker) places.now }
-        ensures steps { steps.new ≡ steps.old + looked_for (allows_job self.now now worker) places.now }
+        ensures answer { result ≡ first_job (allows_job self.now now worker) ranks.now }
+        ensures steps { steps.new ≡ steps.old + looked_for (allows_job self.now now worker) ranks.now }
     {
-        for place in places {
+        for rank in ranks {
             steps.tick();
-            if self.allows_job(place.job, worker, now) {
-                return Some(place.job);
+            if self.allows_job(rank.job, worker, now) {
+                return Some(rank.job);
             }
         }
         None

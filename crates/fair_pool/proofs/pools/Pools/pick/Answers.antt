@@ -5,5 +5,5 @@ use Rattle.fair_pool.proofs.pools.Pools.pick.Goals as goal
 
 pub returns : goal.returns
 returns c =
-    c.first_allowed.ensures ∙ ap (first_job (allows_job c.args.self.now c.args.now c.args.worker)) c.queue.ensures.places
+    c.first_allowed.ensures ∙ ap (first_job (allows_job c.args.self.now c.args.now c.args.worker)) c.queue.ensures.ranks
     ∙ first_is_pick c.args.self.now c.args.now c.args.worker c.queue.ensures.rising (sym c.takes_none.ensures ∙ c.if-takes_none.false)

@@ -7,8 +7,8 @@ use Rattle.fair_pool.proofs.pools.tests.opened.Goals as goal
 small : Layout
 small = record {
   pools = record { name = codes "p"; hold = 100 } ∷ [];
-  clients = record { name = codes "c1"; pool = codes "p"; rate = 1 } ∷ record { name = codes "c2"; pool = codes "p"; rate = 2 } ∷ record { name = codes "c3"; pool = codes "p"; rate = 1000 } ∷ [];
-  workers = record { name = codes "w1"; pool = codes "p"; capacity = 1 } ∷ record { name = codes "w2"; pool = codes "p"; capacity = 1 } ∷ [];
+  clients = record { name = codes "c"; pool = codes "p"; rate = 2 } ∷ [];
+  workers = record { name = codes "w"; pool = codes "p"; capacity = 1 } ∷ [];
 }
 
 small_is_sound : IsLayoutSound small
@@ -21,8 +21,8 @@ small_is_sound = record {
   clients_apart = refl;
   workers_apart = refl;
   pools = (omega arith, tt);
-  clients = (record { pool = omega arith; some_rate = omega arith; rate = omega arith }, (record { pool = omega arith; some_rate = omega arith; rate = omega arith }, (record { pool = omega arith; some_rate = omega arith; rate = omega arith }, tt)));
-  workers = (record { pool = omega arith; some_capacity = omega arith; capacity = omega arith }, (record { pool = omega arith; some_capacity = omega arith; capacity = omega arith }, tt));
+  clients = (record { pool = omega arith; some_rate = omega arith; rate = omega arith }, tt);
+  workers = (record { pool = omega arith; some_capacity = omega arith; capacity = omega arith }, tt);
 }
 
 pub open-requires : goal.open-requires

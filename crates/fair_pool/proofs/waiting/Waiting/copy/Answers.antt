@@ -11,7 +11,7 @@ copy_of_queues-requires c = λ i d l.
     let rs = c.self.inside.ready.items in
     let same : c.as_slice-3.result.now ≡ qs = c.as_slice-3.ensures.value in
     rw same (let m : i < length qs = subst (λ x. i < length x) same l in
-    let e = ap length (c.self.invariant.queues i d m).places in
+    let e = ap length (c.self.invariant.queues i d m).ranks in
     let f = length_queue i ks rs in
     omega (arith, c.len.ensures, c.self.inside.tickets.ok.0))
 
@@ -27,7 +27,7 @@ invariant_of-result c =
     let len : length qs' ≡ length qs = c.in_ok-copy_of_queues.ensures.len ∙ ap length same in
     let count : c.len.result ≡ length ks = c.len.ensures ∙ c.self.inside.tickets.ok.0 in
     let kept = kept_moved ks rs qs qs' c.self.inside.spare 0 _ _ (vec_capacity c.in_ok-copy_of_tickets.field-0) (vec_capacity c.in_ok-from_slice.field-0) c.self.invariant len
-    (λ i d l. c.in_ok-copy_of_queues.ensures.places i d (omega arith) ∙ ap (λ x. (get_or x i d).places) same)
+    (λ i d l. c.in_ok-copy_of_queues.ensures.ranks i d (omega arith) ∙ ap (λ x. (get_or x i d).ranks) same)
     (λ i d l. let r = c.in_ok-copy_of_queues.ensures.room i d (omega arith) in omega arith)
     (omega (arith, c.in_ok-copy_of_tickets.field-0.ok, ap length ts'))
     (omega (arith, c.in_ok-from_slice.field-0.ok, ap length rs', c.self.invariant.flags)) in

@@ -2,29 +2,29 @@ use Rattle.std.proofs.Common.{◌≡◌, true, sym, ap, ◌∙◌, subst, length
 use Rattle.std.specs.Prelude.{remove}
 use Rattle.fair_pool.specs.Fair.{has_ticket, ticket_of, without_ticket}
 use Rattle.fair_pool.specs.Flags.{without_flag}
-use Rattle.fair_pool.specs.Kept.{place_before}
+use Rattle.fair_pool.specs.Kept.{rank_before}
 use Rattle.fair_pool.specs.Order.{displaced}
 use Rattle.fair_pool.proofs.Standing.{without_ticket_at, without_flag_at}
-use Rattle.fair_pool.proofs.Waits.{rank, rank_within, SplitAt, split_at, kept_removed, place_there, found_is, length_if}
+use Rattle.fair_pool.proofs.Waits.{index_of, index_within, SplitAt, split_at, kept_removed, rank_there, found_is, length_if}
 use Rattle.fair_pool.proofs.waiting.Waiting.remove.Goals as goal
-use Rattle.fair_pool.proofs.waiting.Waiting.remove.Goals.{After-rank-at, After-remove-was_ready}
+use Rattle.fair_pool.proofs.waiting.Waiting.remove.Goals.{After-index_of-at, After-remove-was_ready}
 
-rank_at : (c : After-rank-at) → c.rank-at.result ≡ rank c.args.job c.self.inside.tickets.items
-rank_at c = c.rank-at.ensures ∙ ap (λ w. rank c.args.job w.tickets) (sym c.self.view_is)
+index_at : (c : After-index_of-at) → c.index_of-at.result ≡ index_of c.args.job c.self.inside.tickets.items
+index_at c = c.index_of-at.ensures ∙ ap (λ w. index_of c.args.job w.tickets) (sym c.self.view_is)
 
-has : (c : After-rank-at) → has_ticket c.args.job c.self.inside.tickets.items ≡ true
+has : (c : After-index_of-at) → has_ticket c.args.job c.self.inside.tickets.items ≡ true
 has c = subst (λ w. has_ticket c.args.job w.tickets ≡ true) (sym c.self.view_is) c.requires
 
 pub remove-ticket-requires : goal.remove-ticket-requires
 remove-ticket-requires c =
-    let start = (goal.at.remove-ticket-requires c).After-rank-at in
-    omega (arith, rank_within c.args.job c.self.inside.tickets.items c.self.invariant.rising (has start), rank_at start, c.self.inside.tickets.ok.0)
+    let start = (goal.at.remove-ticket-requires c).After-index_of-at in
+    omega (arith, index_within c.args.job c.self.inside.tickets.items c.self.invariant.rising (has start), index_at start, c.self.inside.tickets.ok.0)
 
-split : (c : After-remove-was_ready) → SplitAt c.args.job c.self.inside.tickets.items c.self.inside.ready.items c.self.inside.queues.items c.rank-at.result c.remove-ticket.result c.remove-was_ready.result
+split : (c : After-remove-was_ready) → SplitAt c.args.job c.self.inside.tickets.items c.self.inside.ready.items c.self.inside.queues.items c.index_of-at.result c.remove-ticket.result c.remove-was_ready.result
 split c =
-    split_at c.args.job c.self.inside.tickets.items c.self.inside.ready.items c.self.inside.queues.items c.self.inside.spare _ _ c.rank-at.result c.remove-ticket.result c.remove-was_ready.result c.self.invariant
+    split_at c.args.job c.self.inside.tickets.items c.self.inside.ready.items c.self.inside.queues.items c.self.inside.spare _ _ c.index_of-at.result c.remove-ticket.result c.remove-was_ready.result c.self.invariant
     (record {
-      rank = c.rank-at.ensures ∙ ap (λ w. rank c.args.job w.tickets) (sym c.self.view_is);
+      index_of = c.index_of-at.ensures ∙ ap (λ w. index_of c.args.job w.tickets) (sym c.self.view_is);
       has = subst (λ w. has_ticket c.args.job w.tickets ≡ true) (sym c.self.view_is) c.requires;
       ticket = c.remove-ticket.ensures.value;
       flag = c.remove-was_ready.ensures.value;
@@ -32,7 +32,7 @@ split c =
 
 pub dequeue_ready-requires-clause-there : goal.dequeue_ready-requires-clause-there
 dequeue_ready-requires-clause-there c = λ e d.
-    rw c.place-place.ensures (place_there c.args.job c.self.inside.tickets.items c.self.inside.ready.items c.self.inside.queues.items c.rank-at.result c.remove-ticket.result c.remove-was_ready.result
+    rw c.rank-rank.ensures (rank_there c.args.job c.self.inside.tickets.items c.self.inside.ready.items c.self.inside.queues.items c.index_of-at.result c.remove-ticket.result c.remove-was_ready.result
     (split (goal.at.dequeue_ready-requires-clause-there c).After-remove-was_ready) e d)
 
 pub invariant_of-self : goal.invariant_of-self
@@ -40,28 +40,28 @@ invariant_of-self c =
     let ks = c.self.inside.tickets.items in
     let rs = c.self.inside.ready.items in
     let qs = c.self.inside.queues.items in
-    let kept = kept_removed c.args.job ks rs qs c.self.inside.spare _ _ c.rank-at.result c.remove-ticket.result c.remove-was_ready.result c.self.invariant (split (goal.at.invariant_of-self c).After-remove-was_ready) in
-    rw (c.remove-ticket.ensures.items, c.remove-was_ready.ensures.items, c.dequeue_ready.ensures, c.remove-ticket.ensures.capacity, c.remove-was_ready.ensures.capacity, c.place-place.ensures) kept
+    let kept = kept_removed c.args.job ks rs qs c.self.inside.spare _ _ c.index_of-at.result c.remove-ticket.result c.remove-was_ready.result c.self.invariant (split (goal.at.invariant_of-self c).After-remove-was_ready) in
+    rw (c.remove-ticket.ensures.items, c.remove-was_ready.ensures.items, c.dequeue_ready.ensures, c.remove-ticket.ensures.capacity, c.remove-was_ready.ensures.capacity, c.rank-rank.ensures) kept
 
 pub returns-clause-ticket : goal.returns-clause-ticket
 returns-clause-ticket c =
     let ks = c.self.inside.tickets.items in
-    let start = (goal.at.returns-clause-ticket c).After-rank-at in
+    let start = (goal.at.returns-clause-ticket c).After-index_of-at in
     let s = split (goal.at.returns-clause-ticket c).After-remove-was_ready in
     ap (λ w. ticket_of c.args.job w.tickets) (sym c.self.view_is)
-    ∙ sym (found_is c.args.job ks c.rank-at.result c.remove-ticket.result c.self.invariant.rising (rank_at start) s.within c.remove-ticket.ensures.value s.same)
+    ∙ sym (found_is c.args.job ks c.index_of-at.result c.remove-ticket.result c.self.invariant.rising (index_at start) s.within c.remove-ticket.ensures.value s.same)
 
 pub returns-clause-left : goal.returns-clause-left
 returns-clause-left c =
     let ks = c.self.inside.tickets.items in
     let rs = c.self.inside.ready.items in
-    let start = (goal.at.returns-clause-left c).After-rank-at in
-    let at = rank_at start in
+    let start = (goal.at.returns-clause-left c).After-index_of-at in
+    let at = index_at start in
     let tickets : c.remove-ticket.new.self.items ≡ without_ticket c.args.job c.args.self.now.tickets =
     c.remove-ticket.ensures.items ∙ ap (remove ks) at ∙ sym (without_ticket_at c.args.job ks c.self.invariant.rising (has start)) ∙ ap (λ w. without_ticket c.args.job w.tickets) c.self.view_is in
     let flags : c.remove-was_ready.new.self.items ≡ without_flag c.args.job c.args.self.now.tickets c.args.self.now.ready =
     c.remove-was_ready.ensures.items ∙ ap (remove rs) at ∙ sym (without_flag_at c.args.job ks rs c.self.invariant.flags c.self.invariant.rising (has start)) ∙ ap (λ w. without_flag c.args.job w.tickets w.ready) c.self.view_is in
     let pools : length c.dequeue_ready.new.queues.items ≡ c.args.self.now.pools =
-    ap length c.dequeue_ready.ensures ∙ length_if c.remove-was_ready.result (displaced place_before c.place-place.result) c.remove-ticket.result.pool c.self.inside.queues.items ∙ ap (λ w. w.pools) c.self.view_is in
+    ap length c.dequeue_ready.ensures ∙ length_if c.remove-was_ready.result (displaced rank_before c.rank-rank.result) c.remove-ticket.result.pool c.self.inside.queues.items ∙ ap (λ w. w.pools) c.self.view_is in
     let spare = ap (λ w. w.spare) c.self.view_is in
     cc

@@ -5,7 +5,7 @@ use Rattle.fair_pool.specs.Order.{leading, Rises, IsInOrder}
 use Rattle.fair_pool.proofs.Before.{job_before_order}
 use Rattle.fair_pool.proofs.Ordered.{leading_found, parted, IsInOrder-Rises}
 use Rattle.fair_pool.specs.declared.ticket.Ticket.{Ticket}
-use Rattle.fair_pool.proofs.waiting.Waiting.rank.Goals as goal
+use Rattle.fair_pool.proofs.waiting.Waiting.index_of.Goals as goal
 
 pub returns : goal.returns
 returns c =
