@@ -5,7 +5,6 @@ use Rattle.std.specs.Prelude.{Result, Ok, Err, IfOk}
 use Rattle.std.specs.List.{flat_map}
 use Rattle.value_core.specs.declared.value.Value.{Value}
 use Rattle.value_core.specs.declared.state.State.{State}
-use Rattle.value_core.specs.declared.state.State.TheVariants.{Fine}
 use Rattle.value_core.specs.declared.state.Triple.{Triple}
 use Rattle.term_core.specs.declared.evaluation.Evaluator.{Evaluator}
 use Rattle.term_core.specs.declared.gathering.StateFold.{StateFold}

@@ -1,21 +1,18 @@
-use Rattle.std.proofs.Common.{◌≡◌, ◌+◌, refl, ap, sym, ◌∙◌, List, [], ◌∷◌, length, map, drop, rules, arith}
+use Rattle.std.proofs.Common.{◌≡◌, ◌+◌, refl, ap, ◌∙◌, List, [], ◌∷◌, length, drop, rules, arith}
 use Rattle.std.proofs.lemmas.Grind.{common_steps}
 use Rattle.std.specs.Vec.Iter.{into_iter_items}
-use Rattle.value_core.specs.declared.state.State.{State}
-use Rattle.value_core.specs.declared.state.State.TheVariants.{Fine, Failed, Active}
 use Rattle.value_core.specs.declared.value.Value.{Value}
 use Rattle.value_core.specs.Parts.{items_in, text_in}
 use Rattle.term_core.specs.declared.gathering.Collected.TheVariants as collected
 use Rattle.term_core.specs.declared.lookup.OpKind.TheVariants as kind
 use Rattle.term_core.specs.declared.context.Binding.{Binding}
 use Rattle.term_core.specs.Evaluation.{Context, bind, eval, items_run, looked_up, all_run, bind_run, build_run, gate_run, list_run, map_run, outcome_run, output_run, pair_run, triple_of}
-use Rattle.term_core.specs.Evaluators.{Runs, within}
 use Rattle.term_core.specs.Gathering.{made_by}
 use Rattle.term_core.specs.States.{applied_state, caught, mapped, observed, paired}
 use Rattle.term_core.specs.Runs.{follow, follow_both}
 use Rattle.term_core.specs.Views.{context_in, value_for}
 use Rattle.term_core.proofs.Evaluating.{eval_all_is}
-use Rattle.term_core.proofs.Resumes.{if_ok, runs_as, same_within, leaf_runs, mapped_runs, visited_runs, turned_runs, pair_runs, gate_runs, then_runs, then_both_runs, stated_runs, untimed, resumes_first, resumes_step, resumes_same, resumes_last}
+use Rattle.term_core.proofs.Resumes.{if_ok, runs_as, same_within, mapped_runs, visited_runs, turned_runs, pair_runs, gate_runs, then_runs, then_both_runs, stated_runs, untimed, resumes_step, resumes_same, resumes_last}
 use Rattle.term_core.proofs.evaluation.Evaluator.+evaluation.Goals as goal
 
 length-zero : {A : Type 0} (xs : List A) → length xs ≡ 0 → xs ≡ []

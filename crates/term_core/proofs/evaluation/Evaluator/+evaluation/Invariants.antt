@@ -1,9 +1,8 @@
-use Rattle.std.proofs.Common.{◌+◌, ◌*◌, ◌≤◌, List, max, map, drop}
+use Rattle.std.proofs.Common.{◌+◌, ◌*◌, ◌≤◌, max, map, drop}
 use Rattle.std.specs.Vec.Iter.{into_iter_items}
 use Rattle.term_core.specs.declared.program.Term.{size-Term}
 use Rattle.term_core.specs.Evaluation.{bind, eval}
 use Rattle.term_core.specs.Evaluators.{within}
-use Rattle.term_core.specs.Runs.{Run}
 use Rattle.term_core.proofs.Resumes.{Resumes}
 use Rattle.term_core.proofs.evaluation.Evaluator.+evaluation.Given as goal
 
