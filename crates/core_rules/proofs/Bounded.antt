@@ -1,8 +1,8 @@
 -- The bounds at openings and through steps.
-use Rattle.std.proofs.Common.{◌≡◌, ℕ, zero, suc, ◌+◌, ◌-◌, ◌<◌, ◌≤◌, ◌^◌, max, min, Bool, true, false, cond, inl, inr, List, [], ◌∷◌, ◌++◌, map, length, replicate, Option, Some, None, is_some, refl, ap, sym, ◌∙◌, subst, arith}
+use Rattle.std.proofs.Common.{◌≡◌, ℕ, zero, suc, ◌+◌, ◌-◌, ◌<◌, ◌≤◌, ◌^◌, max, min, Bool, true, false, cond, inl, inr, List, [], ◌∷◌, map, length, Option, Some, None, is_some, refl, ap, sym, ◌∙◌, subst, arith}
 use Rattle.std.proofs.lemmas.Bool.{cases_lt, cond_both, eq-eqb, le-leb, ltb-true, and_from}
 use Rattle.std.proofs.lemmas.List.{length-map, length-replicate, length-set}
-use Rattle.std.specs.Prelude.{◌==◌, nat_le, not, filter, if◌then◌else◌, nat_lt, slice_get, slice_set}
+use Rattle.std.specs.Prelude.{◌==◌, nat_le, not, filter, nat_lt, slice_set}
 use Rattle.std.specs.FinMap.{get, get-empty, get-entries, get-insert, get-remove, entries, insert, remove}
 use Rattle.std.specs.FinMap.Entries.{find as find_entry}
 use Rattle.std.specs.List.{AllByRecursion}
@@ -36,7 +36,7 @@ use Rattle.core_rules.specs.declared.jobs.Mark.TheVariants.{Automatic, Unmarked,
 use Rattle.core_rules.specs.declared.notes.Ending.{Ending}
 use Rattle.core_rules.specs.Bounds.{AreRowsKeyed, IsBounded, IsFairWithin}
 use Rattle.core_rules.specs.Changes.{Change, Tried, cancel, cancelled_row, confirm, confirm_at, input_index, pause, rebuild, rebuild_free, rebuild_row, set_input, set_rate, takes}
-use Rattle.core_rules.specs.Core.{CoreState, is_output, job_numbered, op_of, stage, with_job, without_job}
+use Rattle.core_rules.specs.Core.{CoreState, is_output, job_numbered, op_of, stage}
 use Rattle.core_rules.specs.Entries.{key_for}
 use Rattle.core_rules.specs.Exits.{exit_outcome}
 use Rattle.core_rules.specs.Openings.{Durable, IsDurable, IsOpenable, IsRowOpenable, latest, opened, or_declared, start, stored_at}

@@ -1,12 +1,11 @@
 -- The world of a state has the state's entry for each triple.
 use Rattle.std.proofs.Common.{◌≡◌, ℕ, ◌+◌, zero, suc, Bool, true, false, cond, ◌&&◌, ◌||◌, List, [], ◌∷◌, map, Some, None, refl, ap, sym, ◌∙◌, subst, arith}
-use Rattle.std.proofs.lemmas.Bool.{and_parts, and_from, eq-eqb, or_parts, both_ways}
+use Rattle.std.proofs.lemmas.Bool.{and_from, eq-eqb, or_parts, both_ways}
 use Rattle.std.specs.Prelude.{◌==◌, filter, option_and_then, slice_get, if◌then◌else◌}
 use Rattle.std.specs.List.{list_any}
 use Rattle.std.specs.Str.{bytes_eq}
-use Rattle.std.specs.Ordering.{eq_by_cmp, is_eq}
-use Rattle.std.specs.Cmp.{Equal-is, tied_then}
-use Rattle.std.specs.FinMap.{entries, get-entries, nat_cmp-IsAntisymmetric, slice_cmp-IsAntisymmetric}
+use Rattle.std.specs.Ordering.{eq_by_cmp}
+use Rattle.std.specs.FinMap.{entries, get-entries}
 use Rattle.std.specs.FinMap.Entries.{find as find_entry}
 use Rattle.value_core.specs.declared.state.Triple.{Triple}
 use Rattle.core_rules.proofs.Helpers.{any-append, bytes_itself, triple_same}

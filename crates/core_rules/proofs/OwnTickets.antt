@@ -1,6 +1,6 @@
 -- Each ticket is that of the live job of its number.
 use Rattle.std.proofs.Common.{◌≡◌, ℕ, ◌+◌, ◌<◌, Bool, true, false, cond, max, not, List, [], ◌∷◌, ◌++◌, map, Option, Some, None, is_some, length, refl, ap, sym, ◌∙◌, subst, arith}
-use Rattle.std.proofs.lemmas.Bool.{cond_both, eqb-true}
+use Rattle.std.proofs.lemmas.Bool.{cond_both}
 use Rattle.std.specs.Prelude.{◌==◌, filter, if◌then◌else◌, slice_index}
 use Rattle.std.specs.List.{AllByRecursion}
 use Rattle.value_core.specs.declared.state.Triple.{Triple}
@@ -15,7 +15,7 @@ use Rattle.core_rules.specs.declared.events.Event.{Event}
 use Rattle.core_rules.specs.declared.jobs.Job.{Job}
 use Rattle.core_rules.specs.Bounds.{AreTicketsOwn, IsTicketBy, IsTicketFor, IsTicketOwn}
 use Rattle.core_rules.specs.Core.{CoreState, has_job, job_numbered, op_of, with_job, without_job}
-use Rattle.core_rules.specs.Laws.{JobsAbove, JobsBelow, Rising, Ticketed}
+use Rattle.core_rules.specs.Laws.{JobsBelow, Rising, Ticketed}
 use Rattle.core_rules.specs.Openings.{Durable, IsDurable, opened, start}
 use Rattle.core_rules.specs.Settling.{created, dropped, hint_for, lost_marked, mark_lost, new_job, new_ticket, settle_for, stays, targets, wanted}
 use Rattle.core_rules.specs.Steps.{Accepted, at_time, step}

@@ -1,5 +1,5 @@
 -- What a step stores makes the stored part of the new state.
-use Rattle.std.proofs.Common.{◌≡◌, ℕ, zero, suc, ◌+◌, ◌≤◌, Bool, true, false, List, [], ◌∷◌, map, Option, Some, None, is_some, refl, ap, sym, ◌∙◌, subst, arith}
+use Rattle.std.proofs.Common.{◌≡◌, ℕ, zero, suc, ◌+◌, ◌≤◌, Bool, true, false, List, [], ◌∷◌, map, Option, Some, None, is_some, refl, ap, sym, ◌∙◌, arith}
 use Rattle.std.specs.Prelude.{if◌then◌else◌, length, nat_lt, slice_get, slice_set}
 use Rattle.std.specs.FinMap.{get, insert, remove}
 use Rattle.std.specs.Str.{bytes_eq}
@@ -12,7 +12,7 @@ use Rattle.op_keys.specs.Names.{index_named}
 use Rattle.term_core.specs.declared.program.InputDecl.{InputDecl}
 use Rattle.fair_pool.specs.Sound.{is_rate}
 use Rattle.sched_rows.specs.declared.row.Row.{Row}
-use Rattle.sched_rows.specs.RowKeys.{RowKey, key_of, row_key}
+use Rattle.sched_rows.specs.RowKeys.{RowKey, row_key}
 use Rattle.sched_rows.specs.Rows.{marked}
 use Rattle.core_rules.specs.declared.done.Done.{Done}
 use Rattle.core_rules.specs.declared.events.Event.{Event}
@@ -28,7 +28,7 @@ use Rattle.core_rules.specs.Core.{CoreState, is_output, job_numbered, op_of, op_
 use Rattle.core_rules.specs.Entries.{key_for}
 use Rattle.core_rules.specs.Orders.{finish, finish_by, leave, picked, take_by, take_job, take_pick, void_of, voided}
 use Rattle.core_rules.specs.Settling.{is_unmarked, live_on, wanted}
-use Rattle.core_rules.specs.Steps.{Accepted, at_time, change, reply_of, step}
+use Rattle.core_rules.specs.Steps.{Accepted, at_time, change, step}
 use Rattle.core_rules.specs.Stored.{durable, named_values, printed_values, replaced, stored, with_delta, with_input, with_put, with_void}
 use Rattle.core_rules.proofs.Helpers.{bytes_same}
 use Rattle.core_rules.proofs.Moves.{accepts}

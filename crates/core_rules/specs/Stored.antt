@@ -1,5 +1,5 @@
 -- What is stored of a state, and what a step makes of it.
-use Rattle.std.specs.Prelude.{◌≡◌, ℕ, if◌then◌else◌, List, [], ◌∷◌, map, Option, Some, None}
+use Rattle.std.specs.Prelude.{ℕ, if◌then◌else◌, List, [], ◌∷◌, map, Option, Some, None}
 use Rattle.std.specs.FinMap.{insert, remove}
 use Rattle.std.specs.Str.{bytes_eq}
 use Rattle.value_core.specs.declared.value.Value.{Value}
