@@ -4,8 +4,7 @@ use Rattle.std.specs.Prelude.{codes}
 use Rattle.std.specs.List.{AllByRecursion, flat_map}
 use Rattle.value_core.specs.declared.token.Token.{Token}
 use Rattle.value_core.specs.declared.token.Token.TheVariants.{Name, Number, Words, Mark, LongName, LongText}
-use Rattle.value_core.specs.declared.value.Outcome.{Outcome}
-use Rattle.value_core.specs.declared.value.Value.{Value, Value-F, roll-Value, out-Value, out-roll-Value}
+use Rattle.value_core.specs.declared.value.Value.{Value, Value-F}
 use Rattle.value_core.specs.declared.value.Value.TheVariants as value
 use Rattle.value_core.specs.Parts.{text_values}
 use Rattle.term_core.specs.declared.program.Term.{Term, Term-F, roll-Term, map-Term, fold-roll-Term}

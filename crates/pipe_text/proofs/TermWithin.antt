@@ -1,16 +1,15 @@
 -- A term that is spelled by tokens in form is within the limits.
 use Rattle.std.proofs.Common.{◌≡◌, ℕ, suc, ◌+◌, ◌≤◌, Bool, true, List, [], ◌∷◌, ◌++◌, map, length, refl, sym, ap, subst, ◌∙◌, arith}
-use Rattle.std.specs.Prelude.{◌&&◌, nat_le, sum, ◌^◌, nat_lt}
+use Rattle.std.specs.Prelude.{nat_le, sum, ◌^◌, nat_lt}
 use Rattle.std.specs.List.{list_all}
 use Rattle.std.proofs.lemmas.Bool.Decides.{nat_tests}
 use Rattle.std.proofs.lemmas.List.Sums.{sum_by-cons}
 use Rattle.value_core.specs.declared.token.Token.{Token}
 use Rattle.value_core.specs.declared.token.Token.TheVariants.{Name, Number, Words, Mark, LongName, LongText}
-use Rattle.value_core.specs.declared.value.Outcome.{Outcome}
-use Rattle.value_core.specs.declared.value.Value.{Value, Value-F, roll-Value, out-Value, out-roll-Value, fold-roll-Value}
+use Rattle.value_core.specs.declared.value.Value.{Value, Value-F, out-Value}
 use Rattle.value_core.specs.declared.value.Value.TheVariants as value
 use Rattle.value_core.specs.Parts.{text_values}
-use Rattle.value_core.specs.Values.{outcome_weight_step, weight_step, weight_of}
+use Rattle.value_core.specs.Values.{weight_of}
 use Rattle.term_core.specs.declared.program.Term.{Term, Term-F, roll-Term, map-Term, fold-roll-Term}
 use Rattle.term_core.specs.declared.program.Term.TheVariants as term
 use Rattle.value_core.specs.Names.{is_name}
