@@ -7,7 +7,6 @@ use Rattle.std.proofs.lemmas.Bool.{and_from, and_parts, le-leb, leb-true, ltb-fa
 use Rattle.std.proofs.lemmas.List.{length-map}
 use Rattle.std.proofs.lemmas.List.Sums.{sum_by-cons}
 use Rattle.value_core.specs.Functions.{fn_value}
-use Rattle.value_core.specs.Kinds.{literal_kind}
 use Rattle.value_core.specs.Names.{is_name}
 use Rattle.value_core.specs.Parts.{items_in, items_layer, text_in}
 use Rattle.value_core.specs.Values.{weight_of}
@@ -24,11 +23,10 @@ use Rattle.value_core.specs.declared.value.Value.TheVariants as value
 use Rattle.op_keys.specs.Names.{index_named}
 use Rattle.term_core.specs.Evaluation.{Bound, Context, Meaning, context_of, bind, fits, innermost, triple_of, entry_state, state_or_unit, value_or_unit, wanted, looked_up, map_run, pair_run, bind_run, items_run, list_run, outcome_run, gate_run, all_run, build_run, output_run, term_step, eval}
 use Rattle.term_core.specs.Fresh.{fresh, fresh_from}
-use Rattle.term_core.specs.Limits.{IsNodeWithin, has_good_words, is_literal, is_literal_layer, words_step}
+use Rattle.term_core.specs.Limits.{IsNodeWithin, has_good_words, is_literal, words_step}
 use Rattle.term_core.specs.Runs.{Run, stated, after, follow, follow_both, then_do, then_both, together}
 use Rattle.term_core.specs.States.{applied_state, both, caught, first_active, first_failed, gated, limited, listed, mapped, observed, or_else, paired, passed, values_in, weight_limit}
 use Rattle.term_core.specs.World.{World, entry_of}
-use Rattle.term_core.specs.declared.context.Binding.{Binding}
 use Rattle.term_core.specs.declared.entries.Entry.{Entry}
 use Rattle.term_core.specs.declared.entries.Entry.TheVariants as entry
 use Rattle.term_core.specs.declared.program.InputDecl.{InputDecl}
