@@ -1,6 +1,7 @@
 -- The order of pairs tells them apart.
 use Rattle.std.proofs.Common.{◌≡◌, ℕ, Bool, true, false, ◌&&◌, ◌==◌, refl, ap, sym, ◌∙◌, subst, arith, Equal}
-use Rattle.std.proofs.lemmas.Bool.{and_parts}
+use Rattle.value_core.proofs.Basics.{and_parts, both_equal, bytes_tie, same_test}
+use Rattle.value_core.specs.Orders.{bytes_cmp}
 use Rattle.std.proofs.lemmas.Bool.Decides.{nat_tests}
 use Rattle.std.proofs.lemmas.Cmp.{eq_by_cmp_equiv}
 use Rattle.std.specs.Cmp.{Equal-is, tied_then}
@@ -9,15 +10,9 @@ use Rattle.std.specs.Ordering.{eq_by_cmp, is_eq, nat_cmp, ordering_then}
 use Rattle.std.specs.declared.cmp.Ordering.{Ordering}
 use Rattle.value_core.proofs.Sames.{same_refl, same_true}
 use Rattle.value_core.specs.Same.{same}
-use Rattle.dep_index.specs.Pairs.{Link, bytes_cmp, key_of, kind_of, link_cmp, link_cmp_total, number_of, used_cmp, used_code, value_of}
+use Rattle.dep_index.specs.Pairs.{Link, key_of, kind_of, link_cmp, link_cmp_total, number_of, used_cmp, used_code, value_of}
 use Rattle.dep_index.specs.declared.used.Used.{Used}
 use Rattle.dep_index.specs.declared.used.Used.TheVariants as used
-
-both_equal : (a b : Ordering) → ordering_then a b ≡ Equal → (a ≡ Equal) × (b ≡ Equal)
-both_equal a b e = let h = and_parts (is_eq a) (is_eq b) (tied_then a b ∙ ap is_eq e) in ((Equal-is a).0 h.0, (Equal-is b).0 h.1)
-
-bytes_apart : IsAntisymmetric bytes_cmp
-bytes_apart = slice_cmp-IsAntisymmetric nat_cmp-IsAntisymmetric
 
 -- sources with the same kind, number, key and value are one
 same_parts : (u v : Used) → kind_of u ≡ kind_of v → number_of u ≡ number_of v → key_of u ≡ key_of v → value_of u ≡ value_of v → u ≡ v
@@ -36,7 +31,7 @@ used_apart u v e =
     let kinds = both_equal (nat_cmp (kind_of u) (kind_of v)) (ordering_then (nat_cmp (number_of u) (number_of v)) (ordering_then (bytes_cmp (key_of u) (key_of v)) (bytes_cmp (value_of u) (value_of v)))) e in
     let numbers = both_equal (nat_cmp (number_of u) (number_of v)) (ordering_then (bytes_cmp (key_of u) (key_of v)) (bytes_cmp (value_of u) (value_of v))) kinds.1 in
     let texts = both_equal (bytes_cmp (key_of u) (key_of v)) (bytes_cmp (value_of u) (value_of v)) numbers.1 in
-    same_parts u v (nat_cmp-IsAntisymmetric _ _ kinds.0) (nat_cmp-IsAntisymmetric _ _ numbers.0) (bytes_apart _ _ texts.0) (bytes_apart _ _ texts.1)
+    same_parts u v (nat_cmp-IsAntisymmetric _ _ kinds.0) (nat_cmp-IsAntisymmetric _ _ numbers.0) (bytes_tie _ _ texts.0) (bytes_tie _ _ texts.1)
 
 pub link_apart : IsAntisymmetric link_cmp
 link_apart l m e =
@@ -55,15 +50,10 @@ itself l = (eq_by_cmp_equiv link_cmp_total).refl l
 same_number : (n : ℕ) → (n == n) ≡ true
 same_number n = grind (arith, nat_tests)
 
-as_bool : (a b : Bool) → (a ≡ true → b ≡ true) → (b ≡ true → a ≡ true) → a ≡ b
-as_bool true b f g = sym (f refl)
-as_bool false true f g = g refl
-as_bool false false f g = refl
-
 -- the order ties just what the tests of a pair's parts do
 pub parts_tell : (source : Used) (to : ℕ) (l : Link) → eq_by_cmp link_cmp (record { source = source; to = to }) l ≡ (same used_code l.source source && l.to == to)
 parts_tell source to l =
-    as_bool (eq_by_cmp link_cmp (record { source = source; to = to }) l) (same used_code l.source source && l.to == to)
+    same_test (eq_by_cmp link_cmp (record { source = source; to = to }) l) (same used_code l.source source && l.to == to)
     (λ e. let is = tied (record { source = source; to = to }) l e in
     subst (λ (m : Link). (same used_code m.source source && m.to == to) ≡ true) is (rw (same_refl used_code source, same_number to) refl))
     (λ e. let h = and_parts (same used_code l.source source) (l.to == to) e in

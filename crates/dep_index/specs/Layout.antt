@@ -2,7 +2,8 @@
 use Rattle.std.specs.Prelude.{ℕ, Bool, ◌&&◌, ◌==◌, List, map, filter}
 use Rattle.std.specs.List.{list_any}
 use Rattle.value_core.specs.Same.{same}
-use Rattle.dep_index.specs.Pairs.{Link, used_code}
+use Rattle.std.specs.FinSet.{from_list}
+use Rattle.dep_index.specs.Pairs.{Link, Links, used_code}
 use Rattle.dep_index.specs.declared.pair.Pair.{Pair}
 use Rattle.dep_index.specs.declared.used.Used.{Used}
 
@@ -10,7 +11,11 @@ use Rattle.dep_index.specs.declared.used.Used.{Used}
 abbrev pub shown : Pair → Link
 shown p = record { source = p.source; to = p.to }
 
--- whether a pair stands in the list
+-- the pairs as a set
+abbrev pub links_of : List Pair → Links
+links_of pairs = from_list (map shown pairs)
+
+-- whether a pair is in the list
 abbrev pub is_listed : List Link → Used → ℕ → Bool
 is_listed ls source to = list_any (λ l. same used_code l.source source && l.to == to) ls
 

@@ -26,11 +26,10 @@ impl Model for Deps {
 
     ghost coded = { index_code };
 
-    ghost use Rattle.std.specs.FinSet.{from_list};
-    ghost use Rattle.std.specs.Prelude.{◌+◌, ◌≤◌, length, map, vec_capacity};
-    ghost use Rattle.dep_index.specs.Layout.{shown};
+    ghost use Rattle.std.specs.Prelude.{◌+◌, ◌≤◌, length, vec_capacity};
+    ghost use Rattle.dep_index.specs.Layout.{links_of};
 
-    ghost view = { λ d. record { links = from_list (map shown d.pairs.items); spare = d.spare } };
+    ghost view = { λ d. record { links = links_of d.pairs.items; spare = d.spare } };
 
     ghost invariant = { λ d. length d.pairs.items + d.spare ≤ vec_capacity d.pairs };
 }

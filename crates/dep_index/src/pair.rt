@@ -1,8 +1,7 @@
 //! Pairs in the order in which they were linked.
 ghost use Rattle.std.specs.Prelude.{◌≡◌, ◌+◌, ◌<◌, ◌≤◌, ◌==◌, filter, map, not, vec_capacity, vec_len, IfOk};
-ghost use Rattle.std.specs.FinSet.{from_list, insert};
-ghost use Rattle.dep_index.specs.Pairs.{link_cmp};
-ghost use Rattle.dep_index.specs.Layout.{is_listed, listed_users, shown};
+ghost use Rattle.dep_index.specs.Pairs.{with_link};
+ghost use Rattle.dep_index.specs.Layout.{is_listed, links_of, listed_users, shown};
 
 use crate::used::Used;
 use std::alloc::Global;
@@ -29,7 +28,7 @@ pub(crate) fn is_among(pairs: &[Pair], source: &Used, to: u32) -> bool
 /// Adds a pair, if it isn't there; there is room for it.
 pub(crate) fn add(pairs: &mut Vec<Pair>, source: Used, to: u32)
     requires room { vec_len pairs.old < vec_capacity pairs.old }
-    ensures links { from_list {R = link_cmp} (map shown pairs.new.items) ≡ insert (from_list (map shown pairs.old.items)) (record { source = source; to = to }) }
+    ensures links { links_of pairs.new.items ≡ with_link (links_of pairs.old.items) source to }
     ensures len { vec_len pairs.new ≤ vec_len pairs.old + 1 }
     ensures capacity { vec_capacity pairs.new ≡ vec_capacity pairs.old }
 {

@@ -1,5 +1,6 @@
 //! The launcher over child processes.
-ghost use Rattle.std.specs.Prelude.{◌≡◌, ◌≤◌, length, None, IfOk};
+ghost use Rattle.std.specs.Prelude.{◌≡◌, ◌≤◌, length, None, IfOk, Ok};
+ghost use Rattle.io_ends.specs.Causes.{Rose};
 ghost use Rattle.launch_core.specs.Launching.{HasWords, AddsRun, CountsFault, HasAtMost, output_read};
 
 use crate::launcher::Launcher;
@@ -160,7 +161,7 @@ impl<'r, R: Processes> Launcher for ChildLauncher<'r, R> {
         ensures ran { AddsRun None order.now result None }
         ensures bound { IfOk result (HasAtMost output_read) }
         ensures later { self.old.faults ≤ self.new.faults }
-        ensures counted { CountsFault self.old.faults self.new.faults result }
+        ensures fault { result ≡ Ok Exit.Fault → Rose self.old.faults self.new.faults }
     {
         let ran = self.run_child(alloc, order);
         answer(&mut self.faults, ran)

@@ -3,7 +3,7 @@ ghost use Rattle.std.specs.Prelude.{◌≡◌, [], Some, IfOk};
 ghost use Rattle.launch_core.specs.Launching.{HasWords, AddsRun};
 ghost use Rattle.launch_core.specs.Memory.{last_word, echo};
 
-use crate::copying::{copy_of_exit, copy_of_order, copy_of_runs};
+use crate::copying::copy_of_runs;
 use crate::launcher::Launcher;
 use op_keys::{Exit, Order};
 use std::alloc::{AllocError, Global};
@@ -72,7 +72,7 @@ impl Launcher for EchoLauncher {
         ensures ran { AddsRun (Some self.old) order.now result (Some self.new) }
     {
         let exit = echo_of(alloc, order)?;
-        let run = (copy_of_order(alloc, order)?, copy_of_exit(alloc, &exit)?);
+        let run = (order.copy(alloc)?, exit.copy(alloc)?);
         self.runs.push(run)?;
         Ok(exit)
     }

@@ -1,7 +1,7 @@
 //! Launchers, which run orders, and signallers, which tell running jobs to stop.
 //!
 //! `launcher` and `signaller` have the traits. `memory` and `echo` have forms in memory, `children`
-//! and `signalled` those over child processes, and `copying` copies orders and exits.
+//! and `signalled` those over child processes, and `copying` copies lists of them.
 #![tactic(auto)]
 
 mod children;
@@ -13,7 +13,6 @@ mod signalled;
 mod signaller;
 
 pub use children::{ChildLauncher, OUTPUT_READ};
-pub use copying::{copy_of_exit, copy_of_order};
 pub use echo::EchoLauncher;
 pub use launcher::{Launcher, ORDER_WORDS};
 pub use memory::{LauncherInMemory, SignallerInMemory};

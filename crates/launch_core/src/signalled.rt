@@ -1,6 +1,7 @@
 //! The launcher whose children can be told to stop, and the signaller that tells them.
-ghost use Rattle.std.specs.Prelude.{◌≡◌, ◌≤◌, length, None, IfOk};
-ghost use Rattle.launch_core.specs.Launching.{HasWords, AddsRun, CountsFault, HasAtMost, output_read};
+ghost use Rattle.std.specs.Prelude.{◌≡◌, ◌≤◌, length, None, IfOk, Ok};
+ghost use Rattle.io_ends.specs.Causes.{Rose};
+ghost use Rattle.launch_core.specs.Launching.{HasWords, AddsRun, HasAtMost, output_read};
 
 use crate::children::{Ending, Trouble, answer, code_of, read_output, start};
 use crate::launcher::Launcher;
@@ -105,7 +106,7 @@ impl<'r, R: Processes<Started = SystemProcess> + Wait> Launcher for SignalledLau
         ensures ran { AddsRun None order.now result None }
         ensures bound { IfOk result (HasAtMost output_read) }
         ensures later { self.old.faults ≤ self.new.faults }
-        ensures counted { CountsFault self.old.faults self.new.faults result }
+        ensures fault { result ≡ Ok Exit.Fault → Rose self.old.faults self.new.faults }
     {
         let ran = self.run_child(alloc, order);
         answer(&mut self.faults, ran)

@@ -1,5 +1,5 @@
 -- What a contract sees of a pool.
-use Rattle.std.specs.Prelude.{◌≡◌, ℕ, ◌-◌, Bool, true, false, ◌||◌, ◌==◌, not, List, [], ◌∷◌, filter, Option, Some, None, IsSome, if◌then◌else◌, refl}
+use Rattle.std.specs.Prelude.{◌≡◌, ℕ, ◌-◌, max, Bool, true, false, ◌||◌, ◌==◌, not, List, [], ◌∷◌, filter, Option, Some, None, IsSome, if◌then◌else◌, refl}
 use Rattle.std.specs.Coded.{Coded, code_by, coded×, coded_ℕ, coded_list, coded_option}
 use Rattle.std.specs.FinMap.{FinMap, empty, get, insert, retain_keys}
 use Rattle.std.specs.FinMap as map_of
@@ -69,7 +69,9 @@ AreSound (s ∷ older) = (is_open older s.name ≡ false) × (IsOpenOrTop older 
 abbrev pub is_within : ℕ → Option ℕ → List OpenScope → Bool
 is_within outer None _ = false
 is_within outer (Some name) [] = false
-is_within outer (Some name) (s ∷ older) = if s.name == name then (name == outer || is_within outer s.parent older) else is_within outer (Some name) older
+is_within outer (Some name) (s ∷ older) =
+    if s.name == name then (name == outer || is_within outer s.parent older)
+    else is_within outer (Some name) older
 
 -- the scopes that are not within the outer one
 abbrev pub scopes_outside : ℕ → List OpenScope → List OpenScope
@@ -102,13 +104,26 @@ module _ {A : Type 0} where
   abbrev pub nothing_open : Region A
   nothing_open = record { scopes = []; items = empty; spare_scopes = 0; spare_puts = 0 }
 
+  -- there is room for at least so many more scopes and items
+  abbrev pub reserved : Region A → ℕ → ℕ → Region A
+  reserved r scopes puts = record r {
+    spare_scopes = max r.spare_scopes scopes;
+    spare_puts = max r.spare_puts puts;
+  }
+
   -- a scope is opened, for which a spare is used
   abbrev pub opened : Region A → ℕ → Option ℕ → Region A
-  opened r name parent = record r { scopes = record { name = name; parent = parent } ∷ r.scopes; spare_scopes = r.spare_scopes - 1 }
+  opened r name parent = record r {
+    scopes = record { name = name; parent = parent } ∷ r.scopes;
+    spare_scopes = r.spare_scopes - 1;
+  }
 
   -- an item is put at a place, for which a spare is used
   abbrev pub put_at : Region A → ℕ → ℕ → A → Region A
-  put_at r place scope item = record r { items = insert r.items place (record { scope = scope; item = item }); spare_puts = r.spare_puts - 1 }
+  put_at r place scope item = record r {
+    items = insert r.items place (record { scope = scope; item = item });
+    spare_puts = r.spare_puts - 1;
+  }
 
   -- another item is put at a live place
   abbrev pub set_at : Region A → ℕ → A → Region A

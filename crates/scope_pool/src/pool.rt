@@ -1,9 +1,9 @@
-//! The pool: which scopes are open, and what stands in them.
-ghost use Rattle.std.specs.Prelude.{◌≡◌, ◌<◌, false, max, OnErr, OnOk, None, Some};
+//! The pool: which scopes are open, and which items are in them.
+ghost use Rattle.std.specs.Prelude.{◌≡◌, ◌<◌, false, OnErr, OnOk, None, Some};
 ghost use Rattle.std.specs.FinMap.{get, len};
 ghost use Rattle.std.specs.Option.{option_map};
 ghost use Rattle.scope_pool.specs.Laws.{AreNestedByParents};
-ghost use Rattle.scope_pool.specs.Region.{AreSound, IsLive, IsOpen, IsOpenOrTop, closed, is_open, item_at, nothing_open, opened, put_at, set_at};
+ghost use Rattle.scope_pool.specs.Region.{AreSound, IsLive, IsOpen, IsOpenOrTop, closed, is_open, item_at, nothing_open, opened, put_at, reserved, set_at};
 
 use crate::scopes::{Scope, drop_scopes, find_within, reserve_scopes};
 use crate::slots::{Slot, exchange, fill, item_in, reserve_slots, vacate};
@@ -16,7 +16,7 @@ pub struct ScopeId {
     pub name: u64,
 }
 
-/// Where an item stands. A place is used again once its item is gone.
+/// Where an item is kept. A place is used again once its item is gone.
 #[derive(Clone, Copy, Debug, PartialEq, Eq)]
 pub struct Place {
     pub number: u32,
@@ -94,7 +94,7 @@ impl<T: Drop> Pool<T> {
 
     /// Makes room for at least so many more scopes and items.
     pub fn reserve(&mut self, scopes: usize, puts: usize) -> Result<(), AllocError>
-        ensures ok { OnOk result (self.new ≡ record self.old { spare_scopes = max self.old.spare_scopes scopes; spare_puts = max self.old.spare_puts puts }) }
+        ensures ok { OnOk result (self.new ≡ reserved self.old scopes puts) }
         ensures err { OnErr result (self.new ≡ self.old) }
     {
         let names_left = u64::MAX - self.next_scope;
@@ -147,7 +147,7 @@ impl<T: Drop> Pool<T> {
         item_in(self.slots.as_slice(), place.number)
     }
 
-    /// Puts another item at a live place, in the same scope, and gives the one that stood there.
+    /// Puts another item at a live place, in the same scope, and returns the one that was there.
     /// Takes no memory.
     pub fn set(&mut self, place: Place, item: T) -> T
         requires { IsLive self.old place.number }
@@ -158,8 +158,8 @@ impl<T: Drop> Pool<T> {
         exchange(&mut self.slots, place.number, item)
     }
 
-    /// Gives up a scope, all scopes nested in it and all their items, which are dropped. Their
-    /// places may be used again. Takes no memory.
+    /// Closes a scope and all scopes nested in it, and drops all their items. Their places may be
+    /// used again. Takes no memory.
     pub fn close_scope(&mut self, scope: ScopeId)
         requires { IsOpen self.old.scopes scope.name }
         ensures { self.new ≡ closed self.old scope.name }
@@ -170,7 +170,7 @@ impl<T: Drop> Pool<T> {
         self.closing.clear();
     }
 
-    /// How many items stand in the pool.
+    /// How many items are in the pool.
     pub fn live(&self) -> usize
         ensures { result ≡ len self.now.items }
     {

@@ -3,7 +3,7 @@ ghost use Rattle.std.specs.Prelude.{◌≡◌, ◌≤◌, [], Some, IfOk, OnOk, 
 ghost use Rattle.launch_core.specs.Launching.{HasWords, AddsRun, CountsFault};
 ghost use Rattle.launch_core.specs.Memory.{next_exit, exits_later};
 
-use crate::copying::{copy_of_exit, copy_of_exits, copy_of_order, copy_of_runs};
+use crate::copying::{copy_of_exits, copy_of_runs};
 use crate::launcher::Launcher;
 use op_keys::{Exit, Order};
 use std::alloc::{AllocError, Global};
@@ -60,7 +60,7 @@ fn copy_of_next(alloc: Global, exits: &[Exit]) -> Result<Exit, NoMemory>
     ensures { IfOk result (λ exit. exit ≡ next_exit exits.now) }
 {
     match exits.first() {
-        Some(exit) => copy_of_exit(alloc, exit),
+        Some(exit) => exit.copy(alloc),
         None => Ok(Exit::Fault),
     }
 }
@@ -93,7 +93,7 @@ impl Launcher for LauncherInMemory {
         ensures err { OnErr result (self.new ≡ self.old) }
     {
         let exit = copy_of_next(alloc, self.exits.as_slice())?;
-        let run = (copy_of_order(alloc, order)?, copy_of_exit(alloc, &exit)?);
+        let run = (order.copy(alloc)?, exit.copy(alloc)?);
         self.runs.push(run)?;
         if !self.exits.is_empty() {
             self.exits.remove(0);
