@@ -1,0 +1,17 @@
+pub mod NamedIndexes
+pub mod DueRows
+pub mod DoubledKeys
+pub mod Edited
+pub mod FoundEntries
+pub mod TouchedTriples
+pub mod RepliedBefore
+pub mod RunningJobs
+pub mod BoundedStates
+pub mod StepParts
+pub mod KeptRows
+pub mod Messages
+pub mod RowsAfter
+pub mod JobTriples
+pub mod FittingJobs
+pub mod LiteralInputs
+pub mod ProperStates

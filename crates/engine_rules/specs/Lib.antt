@@ -1,0 +1,13 @@
+pub mod Edits
+pub mod Tests
+pub mod Conflicts
+pub mod Touched
+pub mod Found
+pub mod Answers
+pub mod Running
+pub mod Orders
+pub mod Openings
+pub mod Proper
+pub mod Reached
+pub mod Laws
+pub mod inside
