@@ -1,0 +1,7 @@
+use Rattle.std.proofs.Common.{◌≡◌, refl, ap, sym, ◌∙◌, subst}
+use Rattle.core_rules.specs.declared.jobs.Job.{Job}
+use Rattle.job_core.proofs.KeptKeys.{keys_changed}
+use Rattle.job_core.proofs.live_jobs.LiveJobs.mark.Goals as goal
+
+pub invariant_of-self : goal.invariant_of-self
+invariant_of-self c = rw c.mark.ensures (keys_changed c.args.number (λ (j : Job). record j { mark = c.args.mark }) c.self.inside.numbered.jobs c.self.inside.numbered.spare c.self.inside.by_key.items c.self.inside.by_key.cap (λ _. refl) (λ _. refl) (λ _. refl) c.self.invariant)

@@ -1,0 +1,12 @@
+pub mod Live
+pub mod Keys
+pub mod State
+pub mod Own
+pub mod Answers
+pub mod Single
+pub mod Stages
+pub mod Plans
+pub mod Wants
+pub mod Rowing
+pub mod RowTests
+pub mod Marking

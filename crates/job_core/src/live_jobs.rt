@@ -1,0 +1,233 @@
+//! Live jobs, found by their numbers and by their operations and keys.
+ghost use Rattle.std.specs.Prelude.{◌≡◌, ◌-◌, ◌<◌, ◌≤◌, [], ◌∷◌, ◌++◌, true, max, vec_len, insert, IfOk, OnOk, OnErr, Some, None};
+ghost use Rattle.std.specs.Option.{option_copied};
+ghost use Rattle.std.specs.Vec.{vec_capacity};
+ghost use Rattle.value_core.specs.Orders.{same_triple};
+ghost use Rattle.core_rules.specs.Core.{has_job, job_numbered, with_job, without_job};
+ghost use Rattle.core_rules.specs.Entries.{job_of};
+ghost use Rattle.core_rules.specs.Laws.{JobsBelow, OneEach, Rising};
+ghost use Rattle.core_rules.specs.Settling.{live_on, on_key};
+ghost use Rattle.job_core.specs.Keys.{is_found_before, key_cmp, key_rank, rank_found};
+
+use crate::numbered::Numbered;
+use core_rules::{Job, Mark};
+use fair_pool::insert_within;
+use std::alloc::Global;
+use std::cmp::Ordering;
+use std::marker::Model;
+use value_core::{NoMemory, Text, Triple};
+
+/// The live jobs, at most one of an operation and key.
+#[derive(Drop)]
+pub(crate) struct LiveJobs {
+    numbered: Numbered,
+    /// The jobs' numbers in order of operations and keys, searched by halving.
+    by_key: Vec<u64>,
+}
+
+impl Model for LiveJobs {
+    ghost use Rattle.std.specs.Vec.{vec_capacity};
+    ghost use Rattle.job_core.specs.Live.{LiveState, live_code};
+    ghost use Rattle.job_core.specs.Keys.{AreKeysKept};
+
+    ghost Value = { LiveState };
+
+    ghost coded = { live_code };
+
+    ghost view = { λ l. record { jobs = l.numbered.jobs; spare = l.numbered.spare } };
+
+    ghost invariant = { λ l. AreKeysKept l.numbered.jobs l.numbered.spare l.by_key.items (vec_capacity l.by_key) };
+}
+
+/// How a triple's operation and key compare to these.
+pub(crate) fn key_order(triple: &Triple, op: u32, key: &Text) -> Ordering
+    ensures { result ≡ key_cmp triple.now op key.now }
+{
+    match triple.op.cmp(&op) {
+        Ordering::Less => Ordering::Less,
+        Ordering::Equal => triple.key.cmp(key),
+        Ordering::Greater => Ordering::Greater,
+    }
+}
+
+/// Whether a triple is of an operation and key.
+pub(crate) fn is_on(triple: &Triple, op: u32, key: &Text) -> bool
+    ensures { result ≡ on_key op key.now triple.now }
+{
+    triple.op == op && triple.key.is(key)
+}
+
+pub(crate) fn is_same(a: &Triple, b: &Triple) -> bool
+    ensures { result ≡ same_triple a.now b.now }
+{
+    a.op == b.op && a.key.is(&b.key) && a.value.is(&b.value)
+}
+
+impl Numbered {
+    /// Whether the job of a number has a lesser operation and key.
+    fn comes_before(&self, number: u64, op: u32, key: &Text) -> bool
+        ensures { result ≡ is_found_before op key.now (job_numbered self.now.jobs number) }
+    {
+        match self.find(number) {
+            Some(job) => key_order(&job.triple, op, key).is_lt(),
+            None => false,
+        }
+    }
+}
+
+impl LiveJobs {
+    ghost use Rattle.job_core.specs.Live.{LiveState};
+
+    pub(crate) fn new(alloc: Global) -> LiveJobs
+        ensures { result ≡ record { jobs = []; spare = 0 } }
+    {
+        LiveJobs {
+            numbered: Numbered::new(alloc),
+            by_key: Vec::new(alloc),
+        }
+    }
+
+    pub(crate) fn as_slice(&self) -> &[Job]
+        ensures jobs { result.now ≡ self.now.jobs }
+        ensures rising { Rising self.now.jobs }
+        ensures one_each { OneEach self.now.jobs }
+    {
+        self.numbered.as_slice()
+    }
+
+    /// How many jobs have a lesser operation and key.
+    fn key_rank(&self, op: u32, key: &Text) -> usize
+        ensures rank { result ≡ key_rank op key.now self.now.jobs }
+        ensures rising { Rising self.now.jobs }
+        ensures one_each { OneEach self.now.jobs }
+    {
+        let jobs = &self.numbered;
+        self.by_key.as_slice().partition_point(
+            |number: &u64| -> bool
+                ensures { result ≡ is_found_before op key.entry.now (job_numbered jobs.entry.now.jobs number.now) }
+            { jobs.comes_before(*number, op, key) },
+        )
+    }
+
+    /// The job of a number.
+    pub(crate) fn find(&self, number: u64) -> Option<&Job>
+        ensures job { option_copied result ≡ job_numbered self.now.jobs number }
+        ensures rising { Rising self.now.jobs }
+    {
+        self.numbered.find(number)
+    }
+
+    /// The job of an operation and key.
+    pub(crate) fn live_on(&self, op: u32, key: &Text) -> Option<&Job>
+        ensures job { option_copied result ≡ live_on self.now.jobs op key.now }
+        ensures rising { Rising self.now.jobs }
+        ensures one_each { OneEach self.now.jobs }
+    {
+        let at = self.key_rank(op, key);
+        if at == self.by_key.len() {
+            return None;
+        }
+        let job = self.numbered.find(self.by_key[at])?;
+        if is_on(&job.triple, op, key) {
+            Some(job)
+        } else {
+            None
+        }
+    }
+
+    /// The job of a triple.
+    pub(crate) fn job_of(&self, triple: &Triple) -> Option<&Job>
+        ensures job { option_copied result ≡ job_of self.now.jobs triple.now }
+        ensures rising { Rising self.now.jobs }
+        ensures one_each { OneEach self.now.jobs }
+    {
+        let job = self.live_on(triple.op, &triple.key)?;
+        if job.triple.value.is(&triple.value) {
+            Some(job)
+        } else {
+            None
+        }
+    }
+
+    /// Adds the job of the greatest number, for which there is room.
+    pub(crate) fn add(&mut self, job: Job)
+        requires above { JobsBelow job.number self.old.jobs }
+        requires free { live_on self.old.jobs job.triple.op job.triple.key ≡ None }
+        requires room { 0 < self.old.spare }
+        ensures { self.new ≡ record { jobs = self.old.jobs ++ job ∷ []; spare = self.old.spare - 1 } }
+    {
+        let at = self.key_rank(job.triple.op, &job.triple.key);
+        insert_within(&mut self.by_key, at, job.number);
+        self.numbered.add(job);
+    }
+
+    /// The index of a job's number among those in order of operations and keys.
+    fn key_rank_of(&self, number: u64) -> usize
+        ensures rank { result ≡ rank_found self.now.jobs (job_numbered self.now.jobs number) }
+        ensures rising { Rising self.now.jobs }
+        ensures one_each { OneEach self.now.jobs }
+    {
+        match self.numbered.find(number) {
+            Some(job) => self.key_rank(job.triple.op, &job.triple.key),
+            None => 0,
+        }
+    }
+
+    /// Takes the job of a number away.
+    pub(crate) fn remove(&mut self, number: u64) -> Job
+        requires { has_job self.old.jobs number ≡ true }
+        ensures job { job_numbered self.old.jobs number ≡ Some result }
+        ensures left { self.new ≡ record self.old { jobs = without_job number self.old.jobs } }
+        ensures rising { Rising self.old.jobs }
+    {
+        let at = self.key_rank_of(number);
+        self.by_key.remove(at);
+        self.numbered.remove(number)
+    }
+
+    /// The job of a number may start.
+    pub(crate) fn confirm(&mut self, number: u64)
+        requires { has_job self.old.jobs number ≡ true }
+        ensures { self.new ≡ record self.old { jobs = with_job number (λ j. record j { confirmed = true }) self.old.jobs } }
+    {
+        self.numbered.confirm(number);
+    }
+
+    /// The result of the job of a number is thrown away.
+    pub(crate) fn mark(&mut self, number: u64, mark: Mark)
+        requires { has_job self.old.jobs number ≡ true }
+        ensures { self.new ≡ record self.old { jobs = with_job number (λ j. record j { mark = mark }) self.old.jobs } }
+    {
+        self.numbered.mark(number, mark);
+    }
+
+    /// A worker runs the job of a number.
+    pub(crate) fn give(&mut self, number: u64, worker: u32)
+        requires { has_job self.old.jobs number ≡ true }
+        ensures given { self.new ≡ record self.old { jobs = with_job number (λ j. record j { worker = Some worker }) self.old.jobs } }
+        ensures rising { Rising self.old.jobs }
+    {
+        self.numbered.give(number, worker);
+    }
+
+    /// Makes room for at least so many more jobs.
+    pub(crate) fn reserve(&mut self, more: usize) -> Result<(), NoMemory>
+        ensures ok { OnOk result (self.new ≡ record self.old { spare = max self.old.spare more }) }
+        ensures err { OnErr result (self.new ≡ self.old) }
+    {
+        self.by_key.reserve(more)?;
+        self.numbered.reserve(more)
+    }
+
+    /// Equal jobs, without room for more.
+    pub(crate) fn copy(&self, alloc: Global) -> Result<LiveJobs, NoMemory>
+        ensures { IfOk result (λ l. l ≡ record self.now { spare = 0 }) }
+    {
+        let mut by_key = Vec::new(alloc);
+        by_key.extend_from_slice(self.by_key.as_slice())?;
+        Ok(LiveJobs {
+            numbered: self.numbered.copy(alloc)?,
+            by_key,
+        })
+    }
+}

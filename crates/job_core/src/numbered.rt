@@ -1,0 +1,174 @@
+//! Live jobs in order of their numbers.
+ghost use Rattle.std.specs.Prelude.{◌≡◌, ◌-◌, ◌<◌, ◌≤◌, [], ◌∷◌, ◌++◌, true, max, nat_lt, vec_len, IfOk, OnOk, OnErr, Some, None};
+ghost use Rattle.std.specs.Option.{option_copied};
+ghost use Rattle.std.specs.Vec.{vec_capacity};
+ghost use Rattle.fair_pool.specs.Order.{leading};
+ghost use Rattle.core_rules.specs.Core.{has_job, job_numbered, with_job, without_job};
+ghost use Rattle.core_rules.specs.Laws.{JobsBelow, OneEach, Rising};
+ghost use Rattle.core_rules.specs.Settling.{live_on};
+
+use core_rules::{Job, Mark};
+use std::alloc::Global;
+use std::marker::Model;
+use value_core::NoMemory;
+
+/// Jobs in order of their numbers, at most one of an operation and key.
+#[derive(Drop)]
+pub(crate) struct Numbered {
+    /// In order of numbers, searched by halving.
+    jobs: Vec<Job>,
+    /// For how many more jobs there is room.
+    spare: usize,
+}
+
+impl Model for Numbered {
+    ghost use Rattle.std.specs.Vec.{vec_capacity};
+    ghost use Rattle.job_core.specs.Live.{AreLiveKept, LiveState, live_code};
+
+    ghost Value = { LiveState };
+
+    ghost coded = { live_code };
+
+    ghost view = { λ l. record { jobs = l.jobs.items; spare = l.spare } };
+
+    ghost invariant = { λ l. AreLiveKept l.jobs.items l.spare (vec_capacity l.jobs) };
+}
+
+/// Adds an item at the end, and needs no memory.
+fn push_within<T: Drop>(items: &mut Vec<T>, item: T)
+    requires { vec_len items.old < vec_capacity items.old }
+    ensures items { items.new.items ≡ items.old.items ++ item ∷ [] }
+    ensures capacity { vec_capacity items.old ≤ vec_capacity items.new }
+{
+    if items.push(item).is_err() {
+        unreachable!()
+    }
+}
+
+fn copy_of_jobs(alloc: Global, jobs: &[Job]) -> Result<Vec<Job>, NoMemory>
+    ensures { IfOk result (λ js. js.items ≡ jobs.now) }
+{
+    let mut copies = Vec::new(alloc);
+    for job in jobs {
+        copies.push(job.copy(alloc)?)?;
+    }
+    Ok(copies)
+}
+
+impl Numbered {
+    ghost use Rattle.job_core.specs.Live.{LiveState};
+
+    pub(crate) fn new(alloc: Global) -> Numbered
+        ensures { result ≡ record { jobs = []; spare = 0 } }
+    {
+        Numbered {
+            jobs: Vec::new(alloc),
+            spare: 0,
+        }
+    }
+
+    pub(crate) fn as_slice(&self) -> &[Job]
+        ensures jobs { result.now ≡ self.now.jobs }
+        ensures rising { Rising self.now.jobs }
+        ensures one_each { OneEach self.now.jobs }
+    {
+        self.jobs.as_slice()
+    }
+
+    /// How many jobs have a smaller number.
+    fn rank(&self, number: u64) -> usize
+        ensures { result ≡ leading (λ j. nat_lt j.number number) self.now.jobs }
+    {
+        self.jobs.as_slice().partition_point(
+            |j: &Job| -> bool
+                ensures { result ≡ nat_lt j.now.number number }
+            { j.number < number },
+        )
+    }
+
+    /// The job of a number.
+    pub(crate) fn find(&self, number: u64) -> Option<&Job>
+        ensures job { option_copied result ≡ job_numbered self.now.jobs number }
+        ensures rising { Rising self.now.jobs }
+    {
+        let at = self.rank(number);
+        if at < self.jobs.len() && self.jobs[at].number == number {
+            Some(&self.jobs[at])
+        } else {
+            None
+        }
+    }
+
+    /// Adds the job of the greatest number, for which there is room.
+    pub(crate) fn add(&mut self, job: Job)
+        requires above { JobsBelow job.number self.old.jobs }
+        requires free { live_on self.old.jobs job.triple.op job.triple.key ≡ None }
+        requires room { 0 < self.old.spare }
+        ensures { self.new ≡ record { jobs = self.old.jobs ++ job ∷ []; spare = self.old.spare - 1 } }
+    {
+        push_within(&mut self.jobs, job);
+        self.spare -= 1;
+    }
+
+    /// Takes the job of a number away.
+    pub(crate) fn remove(&mut self, number: u64) -> Job
+        requires { has_job self.old.jobs number ≡ true }
+        ensures job { job_numbered self.old.jobs number ≡ Some result }
+        ensures left { self.new ≡ record self.old { jobs = without_job number self.old.jobs } }
+        ensures rising { Rising self.old.jobs }
+    {
+        let at = self.rank(number);
+        self.jobs.remove(at)
+    }
+
+    /// The job of a number may start.
+    pub(crate) fn confirm(&mut self, number: u64)
+        requires { has_job self.old.jobs number ≡ true }
+        ensures { self.new ≡ record self.old { jobs = with_job number (λ j. record j { confirmed = true }) self.old.jobs } }
+    {
+        let at = self.rank(number);
+        self.jobs[at].confirmed = true;
+    }
+
+    /// The result of the job of a number is thrown away.
+    pub(crate) fn mark(&mut self, number: u64, mark: Mark)
+        requires { has_job self.old.jobs number ≡ true }
+        ensures { self.new ≡ record self.old { jobs = with_job number (λ j. record j { mark = mark }) self.old.jobs } }
+    {
+        let at = self.rank(number);
+        self.jobs[at].mark = mark;
+    }
+
+    /// A worker runs the job of a number.
+    pub(crate) fn give(&mut self, number: u64, worker: u32)
+        requires { has_job self.old.jobs number ≡ true }
+        ensures given { self.new ≡ record self.old { jobs = with_job number (λ j. record j { worker = Some worker }) self.old.jobs } }
+        ensures rising { Rising self.old.jobs }
+    {
+        let at = self.rank(number);
+        self.jobs[at].worker = Some(worker);
+    }
+
+    /// Makes room for at least so many more jobs.
+    pub(crate) fn reserve(&mut self, more: usize) -> Result<(), NoMemory>
+        ensures ok { OnOk result (self.new ≡ record self.old { spare = max self.old.spare more }) }
+        ensures err { OnErr result (self.new ≡ self.old) }
+    {
+        if more <= self.spare {
+            return Ok(());
+        }
+        self.jobs.reserve(more)?;
+        self.spare = more;
+        Ok(())
+    }
+
+    /// Equal jobs, without room for more.
+    pub(crate) fn copy(&self, alloc: Global) -> Result<Numbered, NoMemory>
+        ensures { IfOk result (λ l. l ≡ record self.now { spare = 0 }) }
+    {
+        Ok(Numbered {
+            jobs: copy_of_jobs(alloc, self.jobs.as_slice())?,
+            spare: 0,
+        })
+    }
+}
