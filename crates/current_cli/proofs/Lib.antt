@@ -1,6 +1,8 @@
+pub mod OneTask
+pub mod Writing
+pub mod QuietCores
+pub mod Answers
+pub mod Turns
+pub mod LineLoop
 pub mod Plans
-pub mod Stops
-pub mod SoFar
-pub mod Restored
-pub mod Tops
-pub mod Shown
+pub mod SetBack

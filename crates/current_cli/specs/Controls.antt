@@ -19,7 +19,8 @@ set_to name (Some v) = Set name v
 -- what the tokens of a line ask for: `set NAME LITERAL`, or nothing where there is no token
 abbrev pub control_of : List Token → Control
 control_of [] = Nothing
-control_of (Name word ∷ Name name ∷ ks) = if bytes_eq word (codes "set") then set_to name (literal_of ks) else Unknown
+control_of (Name word ∷ Name name ∷ ks) =
+    if bytes_eq word (codes "set") then set_to name (literal_of ks) else Unknown
 control_of ks = Unknown
 
 -- the same, where the line is tokens up to its end

@@ -1,13 +1,7 @@
-pub mod Controls
-pub mod Refusals
 pub mod Words
-pub mod Plans
-pub mod Versions
-pub mod Cores
-pub mod Settings
-pub mod Codes
-pub mod Lines
-pub mod Marks
-pub mod StopCauses
+pub mod Controls
+pub mod Outputs
 pub mod Transcripts
+pub mod Tasks
 pub mod Top
+pub mod inside

@@ -1,64 +1,75 @@
--- What the program does for its words, its file and its input.
-use Rattle.std.specs.Prelude.{◌≡◌, ℕ, List, [], ◌∷◌, ◌⊎◌, codes}
-use Rattle.std.specs.declared.option.Option.{Option}
-use Rattle.std.specs.declared.option.Option.TheVariants.{None, Some}
-use Rattle.io_ends.specs.Known.{content_now}
-use Rattle.current_cli.specs.declared.session.SessionEnd.{SessionEnd}
-use Rattle.current_cli.specs.declared.session.SessionEnd.TheVariants.{Quit, ReadFault, WriteFault, NoMemory}
-use Rattle.current_cli.specs.Marks.{Mark, Print, Did, Stopped}
-use Rattle.current_cli.specs.Plans.{Task, wrong_words, no_file, refused_file, session_of, reported_file, IsTaskOfContent}
-use Rattle.current_cli.specs.declared.words.Command.{Command}
-use Rattle.current_cli.specs.Transcripts.{IsTold, transcript}
+-- What the program does for its words, its files and its input.
+use Rattle.std.specs.Prelude.{◌≡◌, ℕ, List, [], ◌∷◌, ◌++◌, ◌⊎◌, IfSome, codes}
+use Rattle.current_cli.specs.Outputs.{Output, Print, Known, Did, Stopped}
+use Rattle.current_cli.specs.Tasks.{Contents, IsTask}
+use Rattle.current_cli.specs.Transcripts.{End, Quits, Limit, Transcript, transcript}
+use Rattle.current_cli.specs.declared.tasks.Task.{Task}
+use Rattle.current_cli.specs.declared.tasks.Task.TheVariants.{WrongWords, NoFile, Refused, Reported, Session}
+use Rattle.current_cli.specs.Words.{Request}
 
--- what a command asks for of a file that may be missing
-abbrev pub IsTaskOfFile : Command → Option (List ℕ) → Task → Type 0
-IsTaskOfFile command None task = task ≡ no_file
-IsTaskOfFile command (Some content) task = IsTaskOfContent command content task
+-- what is to be written, in order, and the status where all of it was
+pub record Plan : Type 0 where
+  pub outputs : List Output
+  pub status : ℕ
 
--- what the words ask for, where they name a command and a file
-abbrev pub IsTask : Option (Command × List ℕ) → (List ℕ → List (List ℕ)) → Task → Type 0
-IsTask None contents task = task ≡ wrong_words
-IsTask (Some (command, path)) contents task = IsTaskOfFile command (content_now (contents path)) task
+-- a text and a status
+abbrev pub telling : List ℕ → ℕ → Plan
+telling text status = record { outputs = Print text ∷ []; status = status }
 
--- the status of a task where all of it was done
-abbrev pub status_of : Task → ℕ
-status_of wrong_words = 2
-status_of no_file = 2
-status_of (refused_file line) = 3
-status_of (session_of p) = 0
-status_of (reported_file text) = 0
+-- what the end of a session writes, and its status
+abbrev pub end_plan : End → Plan
+end_plan Quits = record { outputs = []; status = 0 }
+end_plan Limit = telling (codes "error: limit\n") 8
 
--- what a task writes over the bytes of the input
-abbrev pub marks_for : Task → List ℕ → List Mark
-marks_for wrong_words bytes = Print (codes "error: usage\n") ∷ []
-marks_for no_file bytes = Print (codes "error: no file\n") ∷ []
-marks_for (refused_file line) bytes = Print line ∷ []
-marks_for (session_of p) bytes = transcript p bytes
-marks_for (reported_file text) bytes = Print text ∷ []
+-- the same after what the session did
+abbrev pub session_plan : Transcript → Plan
+session_plan t = record {
+  outputs = t.outputs ++ (end_plan t.end).outputs;
+  status = (end_plan t.end).status;
+}
 
--- the status is that of the task, or that of a fault: of reading, of writing, or want of memory
-abbrev pub IsStatusOf : Task → ℕ → Type 0
-IsStatusOf task status = (status ≡ status_of task) ⊎ ((status ≡ 4) ⊎ ((status ≡ 5) ⊎ (status ≡ 7)))
+-- the plan of a task over the bytes of the input
+abbrev pub plan_of : Task → List ℕ → Plan
+plan_of WrongWords bytes = telling (codes "error: usage\n") 2
+plan_of NoFile bytes = telling (codes "error: no file\n") 2
+plan_of (Refused line) bytes = telling line 3
+plan_of (Reported text) bytes = telling text 0
+plan_of (Session p) bytes = session_plan (transcript p bytes)
 
--- The first n marks were written, and perhaps a part of the next; all of them where the status is that of the task.
-abbrev pub Follows : Task → List ℕ → ℕ → Option (List ℕ) → Option (List ℕ) → Type 0
-Follows task bytes status w w' = Stopped (marks_for task bytes) w w' × (status ≡ status_of task → Did (marks_for task bytes) [] w w')
+-- the status of a fault: of reading, of writing, or out of memory
+abbrev pub IsFault : ℕ → Type 0
+IsFault status = (status ≡ 4) ⊎ ((status ≡ 5) ⊎ (status ≡ 7))
 
--- a run on this request, over the contents of the files and what the input has left: it does what its task asks for
-abbrev pub IsRun : Option (Command × List ℕ) → (List ℕ → List (List ℕ)) → Option (List ℕ) → ℕ → Option (List ℕ) → Option (List ℕ) → Type 0
-IsRun request contents left status w w' = (task : Task) → IsTask request contents task → IsStatusOf task status × IsTold left (λ bytes. Follows task bytes status w w')
+-- the status of a task that was done, where the bytes of the input may be unknown
+abbrev pub IsDone : Task → ℕ → Type 0
+IsDone WrongWords status = status ≡ 2
+IsDone NoFile status = status ≡ 2
+IsDone (Refused line) status = status ≡ 3
+IsDone (Reported text) status = status ≡ 0
+IsDone (Session p) status = (status ≡ 0) ⊎ (status ≡ 8)
 
--- the same on a content that was read
-abbrev pub IsRunOn : Command → List ℕ → Option (List ℕ) → ℕ → Option (List ℕ) → Option (List ℕ) → Type 0
-IsRunOn command content left status w w' = (task : Task) → IsTaskOfContent command content task → IsStatusOf task status × IsTold left (λ bytes. Follows task bytes status w w')
+-- all of the plan was done, with its status; or its first n outputs and perhaps a part of the next,
+-- with that of a fault
+abbrev pub Follows : Plan → ℕ → Known → Known → Type 0
+Follows plan status w w' =
+    ((status ≡ plan.status) × Did plan.outputs w w') ⊎ (IsFault status × Stopped plan.outputs w w')
 
--- the words and the files ask for what can be done whole: a session or a report
-abbrev pub CanBeDone : Option (Command × List ℕ) → (List ℕ → List (List ℕ)) → Type 0
-CanBeDone request contents = (task : Task) × IsTask request contents task × (status_of task ≡ 0)
+-- a task was done over what the input had left, or a fault stopped it
+pub record Performs (task : Task) (left : Known) (status : ℕ) (w w' : Known) : Type 0 where
+  pub ends : IsDone task status ⊎ IsFault status
+  pub plan : IfSome left (λ bytes. Follows (plan_of task bytes) status w w')
 
--- the status of a session's end
-abbrev pub end_status : SessionEnd → ℕ
-end_status Quit = 0
-end_status ReadFault = 4
-end_status WriteFault = 5
-end_status NoMemory = 7
+-- what the words and the contents of the files ask for was done, or a fault stopped it
+pub record IsRun (request : Request) (contents : Contents) (left : Known) (status : ℕ)
+    (w w' : Known) : Type 0 where
+  pub task : Task
+  pub asked : IsTask request contents task
+  pub performs : Performs task left status w w'
+
+-- they ask for a session or a report
+abbrev pub CanBeDone : Request → Contents → Type 0
+CanBeDone request contents = (task : Task) × IsTask request contents task × (IsDone task 0)
+
+-- a session or a report, or memory ran out
+abbrev pub IsWhole : ℕ → Type 0
+IsWhole status = (status ≡ 0) ⊎ ((status ≡ 8) ⊎ (status ≡ 7))

@@ -10,16 +10,23 @@ use Rattle.current_cli.specs.declared.words.Command.TheVariants.{Run, Check}
 
 -- the command of a word
 abbrev pub command_named : List ℕ → Option Command
-command_named word = if bytes_eq word (codes "run") then Some Run else (if bytes_eq word (codes "check") then Some Check else None)
+command_named word =
+    if bytes_eq word (codes "run") then Some Run
+    else (if bytes_eq word (codes "check") then Some Check else None)
 
--- a command with the path of its file, which isn't empty
-abbrev pub request_on : Option Command → List ℕ → Option (Command × List ℕ)
+-- a command with the path of its file, where the words name one
+abbrev pub Request : Type 0
+Request = Option (Command × List ℕ)
+
+-- a path that isn't empty
+abbrev pub request_on : Option Command → List ℕ → Request
 request_on None path = None
 request_on (Some command) path = if length path == 0 then None else Some (command, path)
 
 -- what the words ask for: they are `run FILE` or `check FILE`
-abbrev pub request_of : List (String Global) → Option (Command × List ℕ)
+abbrev pub request_of : List (String Global) → Request
 request_of [] = None
 request_of (command ∷ []) = None
-request_of (command ∷ path ∷ []) = request_on (command_named (string_bytes command)) (string_bytes path)
+request_of (command ∷ path ∷ []) =
+    request_on (command_named (string_bytes command)) (string_bytes path)
 request_of (command ∷ path ∷ more ∷ words) = None

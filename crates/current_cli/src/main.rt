@@ -2,14 +2,12 @@
 #![tactic(auto)]
 
 mod controls;
-mod evaluating;
 mod laws;
-mod lines;
-mod pipeline;
-mod planning;
-mod refusals;
 mod session;
+mod stop;
+mod tasks;
 mod top;
+mod versions;
 mod words;
 
 use io_ends::{Reading, RealFiles, Writing};

@@ -1,27 +1,31 @@
 //! All that the program does.
-ghost use Rattle.std.specs.Prelude.{◌≡◌, ◌≢◌, ◌≤◌, ◌<◌, ◌^◌, ℕ, List, [], ◌∷◌, ◌⊎◌, length, Option, None, Some, IfOk, IfSome, IfNone};
+ghost use Rattle.std.specs.Prelude.{◌≡◌, ◌≢◌, ◌≤◌, ◌⊎◌, Ok, None, IfOk, IfSome};
 ghost use Rattle.io_ends.specs.Causes.{Rose};
-ghost use Rattle.current_cli.specs.Marks.{Did, Stopped, Print};
-ghost use Rattle.current_cli.specs.Top.{CanBeDone, IsRun, IsRunOn, end_status};
+ghost use Rattle.current_cli.specs.Top.{CanBeDone, Follows, IsRun, IsWhole, Performs, telling};
 ghost use Rattle.current_cli.specs.Words.{request_of};
+ghost use Rattle.current_cli.specs.inside.Cores.{LooksUpNothing};
+ghost use Rattle.current_cli.specs.inside.Stops.{FindsTask, StatusCause};
+ghost use Rattle.current_cli.specs.inside.TaskOf.{CanRun, IsUsage, task_for};
 
-use crate::planning::{Plan, plan_of};
-use crate::session::{SessionEnd, print, session};
-use crate::words::{Command, request_of};
-use io_ends::{FileFault, FileRead, Files, Sink, Source};
+use crate::session::{print, session};
+use crate::stop::Stop;
+use crate::tasks::{Task, task_of};
+use crate::words::request_of;
+use io_ends::{FileRead, Files, Sink, Source};
 use std::alloc::Global;
+use term_check::Checked;
 
 /// A pipeline file has at most so many bytes.
 const FILE_LIMIT: usize = 1_048_576;
 
 /// Prints a text that is all there is to write, and answers the status.
 fn tell<K: Sink>(out: &mut K, text: &[u8], status: u8) -> u8
-    requires { (status ≢ 5) }
-    ensures wrote { Stopped (Print text.now ∷ []) (K.written out.old) (K.written out.new) }
-    ensures whole { result ≡ status → Did (Print text.now ∷ []) [] (K.written out.old) (K.written out.new) }
+    requires { status ≢ 5 }
+    ensures plan { Follows (telling text.now status) result
+        (K.written out.old) (K.written out.new) }
+    ensures only { (result ≡ status) ⊎ (result ≡ 5) }
     ensures write { result ≡ 5 → Rose (K.faults out.old) (K.faults out.new) }
     ensures kept { result ≡ status → K.faults out.new ≡ K.faults out.old }
-    ensures only { (result ≡ status) ⊎ (result ≡ 5) }
 {
     match print(out, text) {
         Ok(()) => status,
@@ -29,37 +33,57 @@ fn tell<K: Sink>(out: &mut K, text: &[u8], status: u8) -> u8
     }
 }
 
-fn status_of(end: SessionEnd) -> u8
-    ensures { result ≡ end_status end }
+/// Runs a session.
+fn run<S: Source, K: Sink>(alloc: Global, checked: Checked, input: &mut S, out: &mut K) -> u8
+    requires { LooksUpNothing checked }
+    ensures run { Performs (Task.Session checked) (S.left input.old) result (K.written out.old)
+        (K.written out.new) }
+    ensures cause { StatusCause result (S.faults input.old) (S.faults input.new) (K.faults out.old)
+        (K.faults out.new) }
 {
-    match end {
-        SessionEnd::Quit => 0,
-        SessionEnd::ReadFault => 4,
-        SessionEnd::WriteFault => 5,
-        SessionEnd::NoMemory => 7,
+    match session(alloc, checked, input, out) {
+        Ok(()) => 0,
+        Err(Stop::LimitReached) => tell(out, b"error: limit\n", 8),
+        Err(stop) => stop.status(),
     }
 }
 
-/// Does what a command asks for of a file's content.
-fn perform<S: Source, K: Sink>(
-    alloc: Global,
-    command: Command,
-    content: &[u8],
-    input: &mut S,
-    out: &mut K,
-) -> u8
-    ensures run { IsRunOn command content.now (S.left input.old) result (K.written out.old) (K.written out.new) }
-    ensures read { result ≡ 4 → Rose (S.faults input.old) (S.faults input.new) }
-    ensures write { result ≡ 5 → Rose (K.faults out.old) (K.faults out.new) }
-    ensures done { result ≡ 0 → (S.faults input.new ≡ S.faults input.old) × (K.faults out.new ≡ K.faults out.old) }
-    ensures words { result ≢ 2 }
-    ensures known { result ≤ 7 }
+/// Does a task.
+fn perform<S: Source, K: Sink>(alloc: Global, task: Task, input: &mut S, out: &mut K) -> u8
+    requires { CanRun task }
+    ensures run { Performs task (S.left input.old) result (K.written out.old) (K.written out.new) }
+    ensures cause { StatusCause result (S.faults input.old) (S.faults input.new) (K.faults out.old)
+        (K.faults out.new) }
+    ensures usage { IsUsage task → (result ≡ 2) ⊎ (result ≡ 5) }
+    ensures only_usage { result ≡ 2 → IsUsage task }
+    ensures known { result ≤ 8 }
 {
-    match plan_of(alloc, command, content) {
-        Err(_) => 7,
-        Ok(Plan::Refused(line)) => tell(out, line.as_bytes(), 3),
-        Ok(Plan::Report(text)) => tell(out, text.as_slice(), 0),
-        Ok(Plan::Session(program)) => status_of(session(alloc, program, input, out)),
+    match task {
+        Task::WrongWords => tell(out, b"error: usage\n", 2),
+        Task::NoFile => tell(out, b"error: no file\n", 2),
+        Task::Refused(line) => tell(out, line.as_slice(), 3),
+        Task::Reported(text) => tell(out, text.as_slice(), 0),
+        Task::Session(checked) => run(alloc, checked, input, out),
+    }
+}
+
+/// The task of the words and their file.
+fn find_task<F: Files>(alloc: Global, words: &[String], files: &mut F) -> Result<Task, Stop>
+    ensures task { IfSome (F.held files.old) (λ contents. IfOk result
+        (λ task. task ≡ task_for (request_of words.now) contents)) }
+    ensures can_run { IfOk result (λ task. CanRun task) }
+    ensures usage { IfOk result (λ task. IsUsage task
+        → (request_of words.now ≡ None) ⊎ Rose (F.misses files.old) (F.misses files.new)) }
+    ensures wrong_words { request_of words.now ≡ None → result ≡ Ok Task.WrongWords }
+    ensures missing { (F.misses files.new ≡ F.misses files.old) ⊎ (result ≡ Ok Task.NoFile) }
+    ensures cause { FindsTask result (F.faults files.old) (F.faults files.new) }
+{
+    let Some(request) = request_of(words) else {
+        return Ok(Task::WrongWords);
+    };
+    match files.read_file(alloc, request.path, FILE_LIMIT)? {
+        FileRead::Missing => Ok(Task::NoFile),
+        FileRead::Found(content) => Ok(task_of(alloc, request.command, content.as_slice())?),
     }
 }
 
@@ -75,30 +99,32 @@ pub fn top<S: Source, K: Sink, F: Files>(
     out: &mut K,
     files: &mut F,
 ) -> u8
-    // What is written is the first marks of the task, and perhaps a part of the next; with the status of the task it is all of them.
-    ensures run { IfSome (F.held files.old) (λ contents. IsRun (request_of words.now) contents (S.left input.old) result (K.written out.old) (K.written out.new)) }
-    // A file that is held and stands for a sound program is run to the end of the input, or checked, where no count rises.
-    ensures complete { IfSome (F.held files.old) (λ contents. CanBeDone (request_of words.now) contents
-        → (Rose (S.faults input.old) (S.faults input.new) → ⊥) → (Rose (K.faults out.old) (K.faults out.new) → ⊥) → (Rose (F.faults files.old) (F.faults files.new) → ⊥)
-        → (result ≡ 0) ⊎ (result ≡ 7)) }
-    ensures done { result ≡ 0 → (S.faults input.new ≡ S.faults input.old) × (K.faults out.new ≡ K.faults out.old) × (F.faults files.new ≡ F.faults files.old) }
-    ensures read { result ≡ 4 → Rose (S.faults input.old) (S.faults input.new) ⊎ Rose (F.faults files.old) (F.faults files.new) }
+    // The task of the words and the files is done, or the first n of its outputs and perhaps a part
+    // of the next are written and the status is that of a fault.
+    ensures run { IfSome (F.held files.old) (λ contents. IsRun (request_of words.now) contents
+        (S.left input.old) result (K.written out.old) (K.written out.new)) }
+    // A file that is held and stands for a sound program is run or checked, where no count rises.
+    ensures complete { IfSome (F.held files.old) (λ contents.
+        CanBeDone (request_of words.now) contents
+        → (Rose (S.faults input.old) (S.faults input.new) → ⊥)
+        → (Rose (K.faults out.old) (K.faults out.new) → ⊥)
+        → (Rose (F.faults files.old) (F.faults files.new) → ⊥)
+        → IsWhole result) }
+    ensures done { result ≡ 0 → (S.faults input.new ≡ S.faults input.old)
+        × (K.faults out.new ≡ K.faults out.old) × (F.faults files.new ≡ F.faults files.old) }
+    ensures read { result ≡ 4 → Rose (S.faults input.old) (S.faults input.new)
+        ⊎ Rose (F.faults files.old) (F.faults files.new) }
     ensures write { result ≡ 5 → Rose (K.faults out.old) (K.faults out.new) }
-    // Status 2 comes for no other cause than the words or a missing file, and in its place only a fault of the sink.
-    ensures usage { result ≡ 2 → (request_of words.now ≡ None) ⊎ Rose (F.misses files.old) (F.misses files.new) }
+    // Status 2 comes for no other cause than the words or a missing file, and in its place only a
+    // fault of the sink.
+    ensures usage { result ≡ 2 →
+        (request_of words.now ≡ None) ⊎ Rose (F.misses files.old) (F.misses files.new) }
     ensures wrong_words { request_of words.now ≡ None → (result ≡ 2) ⊎ (result ≡ 5) }
     ensures missing { (F.misses files.new ≡ F.misses files.old) ⊎ ((result ≡ 2) ⊎ (result ≡ 5)) }
-    ensures known { result ≤ 7 }
+    ensures known { result ≤ 8 }
 {
-    let Some(request) = request_of(words) else {
-        return tell(out, b"error: usage\n", 2);
-    };
-    match files.read_file(alloc, request.path, FILE_LIMIT) {
-        Err(FileFault::Failed) => 4,
-        Err(FileFault::NoMemory) => 7,
-        Ok(FileRead::Missing) => tell(out, b"error: no file\n", 2),
-        Ok(FileRead::Found(content)) => {
-            perform(alloc, request.command, content.as_slice(), input, out)
-        }
+    match find_task(alloc, words, files) {
+        Ok(task) => perform(alloc, task, input, out),
+        Err(stop) => stop.status(),
     }
 }

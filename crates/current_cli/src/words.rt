@@ -30,7 +30,8 @@ fn command_named(word: &str) -> Option<Command>
 
 /// What the words ask for: they are `run FILE` or `check FILE`, and the file isn't empty.
 pub(crate) fn request_of(words: &[String]) -> Option<Request<'_>>
-    ensures { MatchOption result (request_of words.now ≡ None) (λ r. request_of words.now ≡ Some (r.command, r.path.now)) }
+    ensures { MatchOption result (request_of words.now ≡ None)
+        (λ r. request_of words.now ≡ Some (r.command, r.path.now)) }
 {
     match words {
         [command, path] => {

@@ -1,1 +1,4 @@
 pub mod Reports
+pub mod Lines
+pub mod LastShown
+pub mod FaultLines

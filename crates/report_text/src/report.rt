@@ -3,11 +3,11 @@ ghost use Rattle.std.specs.Prelude.{◌≡◌, ◌<◌, ◌++◌, ◌∷◌, [],
 ghost use Rattle.std.specs.String.{string_bytes};
 ghost use Rattle.report_text.specs.Reports.{AreNumbersOf, level_words, line, name_at, names_at, or_none, report_text, spaced, yes_or_no};
 
-use op_keys::Level;
+use op_keys::{Level, Named};
 use pipe_text::word_of_level;
 use std::alloc::Global;
 use term_check::Report;
-use term_core::{Named, Program};
+use term_core::Program;
 use value_core::{ListOf, NoMemory};
 
 /// Writes the name of the declaration with this number, after a space.

@@ -1,9 +1,9 @@
-use Rattle.std.proofs.Common.{[]}
-use Rattle.current_cli.proofs.Stops.{printed, print_failed, did_stops}
+use Rattle.std.proofs.Common.{[], refl, inl, inr}
+use Rattle.current_cli.proofs.Writing.{print_failed, printed}
 use Rattle.current_cli.proofs.top.tell.Goals as goal
 
-pub returns-in-Ok-clause-wrote : goal.returns-in-Ok-clause-wrote
-returns-in-Ok-clause-wrote g c = did_stops _ [] _ _ (printed _ _ _ c.in-Ok.ensures.ok)
+pub returns-in-Ok-clause-plan : goal.returns-in-Ok-clause-plan
+returns-in-Ok-clause-plan g c = inl (refl, printed _ _ _ c.in-Ok.ensures.ok)
 
-pub returns-in-Err-clause-wrote : goal.returns-in-Err-clause-wrote
-returns-in-Err-clause-wrote g c = print_failed _ [] _ _ c.in-Err.ensures.err
+pub returns-in-Err-clause-plan : goal.returns-in-Err-clause-plan
+returns-in-Err-clause-plan g c = inr (inr (inl refl), print_failed _ [] _ _ c.in-Err.ensures.err)

@@ -1,20 +1,18 @@
-use Rattle.std.proofs.Common.{refl, arith, inl, inr}
-use Rattle.current_cli.proofs.Tops.{run_fault, run_found, completes}
+use Rattle.std.proofs.Common.{ap, Err, inl}
+use Rattle.current_cli.specs.Words.{request_of}
+use Rattle.current_cli.proofs.Plans.{completes, runs, runs_nothing}
 use Rattle.current_cli.proofs.top.top.Goals as goal
 
-pub returns-in-Err-Failed-clause-run : goal.returns-in-Err-Failed-clause-run
-returns-in-Err-Failed-clause-run g c = run_fault _ _ _ 4 _ (inl refl) (omega arith)
+pub returns-in-Ok-clause-run : goal.returns-in-Ok-clause-run
+returns-in-Ok-clause-run g c =
+    runs (g.F.Files.held c.args.files.now) (request_of c.args.words.now) c.in-Ok.task (g.S.Source.left c.args.input.now) c.perform.result (g.K.Sink.written c.args.out.now) (g.K.Sink.written c.perform.new.out) c.in-Ok.ensures.task c.perform.ensures.run
 
-pub returns-in-Err-NoMemory-clause-run : goal.returns-in-Err-NoMemory-clause-run
-returns-in-Err-NoMemory-clause-run g c = run_fault _ _ _ 7 _ (inr (inr refl)) (omega arith)
+pub returns-in-Ok-clause-complete : goal.returns-in-Ok-clause-complete
+returns-in-Ok-clause-complete g c =
+    let run = runs (g.F.Files.held c.args.files.now) (request_of c.args.words.now) c.in-Ok.task (g.S.Source.left c.args.input.now) c.perform.result (g.K.Sink.written c.args.out.now) (g.K.Sink.written c.perform.new.out) c.in-Ok.ensures.task c.perform.ensures.run in
+    completes (g.F.Files.held c.args.files.now) (request_of c.args.words.now) (g.S.Source.left c.args.input.now) c.perform.result (g.K.Sink.written c.args.out.now) (g.K.Sink.written c.perform.new.out) _ _ _
+    run (λ four. inl (c.perform.ensures.cause.read four)) c.perform.ensures.cause.write
 
-pub returns-in-Ok-Found-clause-run : goal.returns-in-Ok-Found-clause-run
-returns-in-Ok-Found-clause-run g c =
-    let read = rw c.in-Ok-Found.field-0-is at c.in-Ok-Found.ensures.content in
-    run_found _ _ _ c.in-Some.request.command c.in-Some.request.path.now c.in-Ok-Found.content _ _ _ c.in-Some.ensures read (rw c.as_slice.ensures.value at c.perform.ensures.run)
-
-pub returns-in-Ok-Found-clause-complete : goal.returns-in-Ok-Found-clause-complete
-returns-in-Ok-Found-clause-complete g c =
-    let read = rw c.in-Ok-Found.field-0-is at c.in-Ok-Found.ensures.content in
-    let run = run_found _ _ _ c.in-Some.request.command c.in-Some.request.path.now c.in-Ok-Found.content _ _ _ c.in-Some.ensures read (rw c.as_slice.ensures.value at c.perform.ensures.run) in
-    completes _ _ _ c.perform.result _ _ _ _ _ run (λ four. inl (c.perform.ensures.read four)) c.perform.ensures.write
+pub returns-in-Err-clause-run : goal.returns-in-Err-clause-run
+returns-in-Err-clause-run g c =
+    rw c.status.ensures (runs_nothing (g.F.Files.held c.args.files.now) (request_of c.args.words.now) c.in-Err.stop (g.S.Source.left c.args.input.now) (g.K.Sink.written c.args.out.now) (λ same. c.in-Err.ensures.cause.no_limit (ap Err same)))

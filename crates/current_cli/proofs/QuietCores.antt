@@ -1,0 +1,53 @@
+-- The core of a program that looks up nothing: nothing is wanted, settling changes nothing, and its states are a fresh evaluation.
+use Rattle.std.proofs.Common.{◌≡◌, ℕ, List, [], ◌∷◌, length, map, Some, refl, sym, ap, ◌∙◌, arith}
+use Rattle.std.specs.List.{AllByRecursion}
+use Rattle.sched_rows.specs.RowKeys.{row_key_cmp}
+use Rattle.sched_rows.specs.declared.row.Row.{Row}
+use Rattle.std.specs.FinMap.{empty, entries, len-empty, len-entries}
+use Rattle.value_core.specs.declared.state.Triple.{Triple}
+use Rattle.value_core.specs.declared.value.Value.{Value}
+use Rattle.term_core.specs.declared.program.Program.{Program}
+use Rattle.term_core.specs.Fresh.{FreshRun}
+use Rattle.term_check.specs.Laws.{IsReported, Lists}
+use Rattle.term_check.specs.Reports.{report_of}
+use Rattle.term_check.proofs.Reported.{reads_only_reported, wants_only_reported}
+use Rattle.core_rules.specs.Core.{CoreState}
+use Rattle.core_rules.specs.Entries.{states, wants, world}
+use Rattle.core_rules.specs.Openings.{start}
+use Rattle.core_rules.specs.Settling.{settle, settle_for}
+use Rattle.term_core.specs.Counts.{in_order}
+use Rattle.current_cli.specs.Transcripts.{opening}
+use Rattle.current_cli.specs.inside.Cores.{LooksUpNothing, empty_world, plain_core, states_over}
+
+-- no number is listed by a report that lists none
+unlisted : (p : Program) (n : ℕ) → (report_of p).ops ≡ [] → Lists (report_of p).ops n → ⊥
+unlisted p n none listed = let never = rw none at listed in absurd cc
+
+nothing_wanted : (p : Program) (ts : List Triple) → (report_of p).ops ≡ [] → AllByRecursion (IsReported p) ts → ts ≡ []
+nothing_wanted p [] none all = refl
+nothing_wanted p (t ∷ ts) none all = absurd (unlisted p t.op none all.0.listed)
+
+pub no_wants : (s : CoreState) → LooksUpNothing s.program → wants s ≡ []
+no_wants s quiet = nothing_wanted s.program (wants s) quiet.no_ops (wants_only_reported s.program s.inputs (world s) quiet.sound)
+
+-- whatever the world is
+pub states_are : (p : Program) (version : ℕ) (inputs : List Value) → LooksUpNothing p → states (plain_core p version inputs) ≡ states_over p inputs
+unfolding states_over
+states_are p version inputs quiet =
+    ap (λ (f : FreshRun). f.states)
+    (reads_only_reported p inputs inputs (world (plain_core p version inputs)) empty_world quiet.sound (λ i listed. refl) (λ t listed. absurd (unlisted p t.op quiet.no_ops listed)))
+
+pub settled : (p : Program) (version : ℕ) (inputs : List Value) → LooksUpNothing p → settle (plain_core p version inputs) ≡ Some (plain_core p version inputs)
+settled p version inputs quiet =
+    ap (λ (ts : List Triple). settle_for (in_order ts) (plain_core p version inputs)) (no_wants (plain_core p version inputs) quiet)
+
+no_length : {A : Type 0} (xs : List A) → length xs ≡ 0 → xs ≡ []
+no_length [] e = refl
+no_length (x ∷ xs) e = absurd (omega (arith, e))
+
+no_rows : entries (empty {X = Row} {R = row_key_cmp}) ≡ []
+no_rows = no_length (entries empty) (sym (len-entries empty) ∙ len-empty row_key_cmp Row)
+
+pub opens : (p : Program) → LooksUpNothing p → opening p ≡ Some (plain_core p 1 (map (λ d. d.value) p.inputs))
+unfolding start
+opens p quiet = rw no_rows (settled p 1 (map (λ d. d.value) p.inputs) quiet)

@@ -1,0 +1,4 @@
+pub mod Stops
+pub mod Cores
+pub mod Turns
+pub mod TaskOf

@@ -1,0 +1,132 @@
+//! The lines of a session.
+ghost use Rattle.std.specs.Prelude.{◌≡◌, ◌++◌, IfOk, IfSome, OnOk, slice_get};
+ghost use Rattle.std.specs.String.{string_bytes};
+ghost use Rattle.core_rules.specs.Replies.{changed_from};
+ghost use Rattle.report_text.specs.Lines.{node_line, node_name, refusal_words, refused_line, stage_word, state_text, version_text};
+ghost use Rattle.report_text.specs.LastShown.{is_shown};
+
+use crate::names::name_at;
+use core_rules::Refusal;
+use std::alloc::Global;
+use term_core::Program;
+use value_core::{ListOf, NoMemory, Stage, State, write_text, write_value};
+
+fn node_name(program: &Program, node: usize) -> &str
+    ensures { result.now ≡ node_name program.now node }
+{
+    name_at(program.nodes.as_slice(), node)
+}
+
+fn stage_word(stage: Stage) -> &'static str
+    ensures { result.now ≡ stage_word stage }
+{
+    match stage {
+        Stage::Ready => "ready",
+        Stage::Waiting => "waiting",
+        Stage::Running => "running",
+    }
+}
+
+#[tactic(auto, unfolding(crate::specs::Lines::state_text))]
+fn write_state(out: &mut String, program: &Program, state: &State) -> Result<(), NoMemory>
+    ensures { OnOk result (string_bytes out.new ≡ string_bytes out.old ++ state_text program.now state.now) }
+{
+    match state {
+        State::Fine(value) => {
+            out.push_str("ok ")?;
+            write_value(out, value)
+        }
+        State::Failed { origin, message } => {
+            out.push_str("failed ")?;
+            write_text(out, message)?;
+            out.push_str(" at ")?;
+            out.push_str(node_name(program, *origin as usize))
+        }
+        State::Active { origin, stage } => {
+            out.push_str("active ")?;
+            out.push_str(stage_word(*stage))?;
+            out.push_str(" at ")?;
+            out.push_str(node_name(program, *origin as usize))
+        }
+    }
+}
+
+/// Writes the line of a node.
+#[tactic(auto, unfolding(crate::specs::Lines::node_line))]
+fn write_line(
+    out: &mut String,
+    program: &Program,
+    node: usize,
+    state: &State,
+) -> Result<(), NoMemory>
+    ensures { OnOk result (string_bytes out.new ≡ string_bytes out.old ++ node_line program.now (node, state.now)) }
+{
+    out.push_str(node_name(program, node))?;
+    out.push_str(": ")?;
+    write_state(out, program, state)?;
+    out.push_str("\n")
+}
+
+/// Whether the state that was shown for a node is this one.
+fn is_shown(before: &[State], node: usize, state: &State) -> bool
+    ensures { result ≡ is_shown (slice_get before.now node) state.now }
+{
+    if node < before.len() {
+        before[node].is(state)
+    } else {
+        false
+    }
+}
+
+/// The version's number, and a line for each node whose state isn't the one shown before.
+#[tactic(auto, unfolding(crate::specs::Lines::version_text))]
+pub fn version_lines(
+    alloc: Global,
+    program: &Program,
+    version: u64,
+    before: &[State],
+    states: &[State],
+) -> Result<ListOf<u8>, NoMemory>
+    ensures { IfOk result (λ text. text ≡ version_text program.now version (changed_from 0 before.now states.now)) }
+{
+    let mut out = format!(in alloc; "version {version}\n")?;
+    for (node, state) in states.iter().enumerate() {
+        if !is_shown(before, node, state) {
+            write_line(&mut out, program, node, state)?;
+        }
+    }
+    Ok(ListOf::from_vec(out.into_bytes()))
+}
+
+/// Writes why an event is refused. Nothing is written where that ends a session.
+fn write_refusal(out: &mut String, refusal: Refusal) -> Result<(), NoMemory>
+    ensures { OnOk result (IfSome (refusal_words refusal) (λ why. string_bytes out.new ≡ string_bytes out.old ++ why)) }
+{
+    match refusal {
+        Refusal::UnknownInput => out.push_str("unknown input"),
+        Refusal::WrongKind => out.push_str("wrong kind"),
+        Refusal::UnknownJob => out.push_str("unknown job"),
+        Refusal::UnknownOp => out.push_str("unknown operation"),
+        Refusal::UnknownWorker => out.push_str("unknown worker"),
+        Refusal::UnknownClient => out.push_str("unknown client"),
+        Refusal::NotWaiting(stage) => {
+            out.push_str("not waiting ")?;
+            out.push_str(stage_word(stage))
+        }
+        Refusal::AlreadyCancelling => out.push_str("already cancelling"),
+        Refusal::Busy(job) => write!(out, "busy {job}"),
+        Refusal::NoRow => out.push_str("no row"),
+        Refusal::RateOutOfRange(rate) => write!(out, "rate {rate}"),
+        Refusal::NumbersUsed | Refusal::NoMemory => Ok(()),
+    }
+}
+
+/// The line of a refusal, where it has one: that numbers or memory are used up ends a session.
+pub fn refusal_line(alloc: Global, refusal: Refusal) -> Result<ListOf<u8>, NoMemory>
+    ensures { IfOk result (λ line. IfSome (refusal_words refusal) (λ why. line ≡ refused_line why)) }
+{
+    let mut line = String::from_str(alloc, "refused ")?;
+    write_refusal(&mut line, refusal)?;
+    line.push_str("\n")?;
+    Ok(ListOf::from_vec(line.into_bytes()))
+}
