@@ -12,8 +12,6 @@
 mod conflicts;
 mod edited_state;
 mod edits;
-#[cfg(test)]
-mod empty_state;
 mod exits;
 mod finding;
 mod laws;
