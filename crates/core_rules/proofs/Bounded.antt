@@ -43,12 +43,13 @@ use Rattle.core_rules.specs.Openings.{Durable, IsDurable, IsOpenable, IsRowOpena
 use Rattle.core_rules.specs.Orders.{finish, finish_by, leave, picked, result_row, take_by, take_job, take_pick, taken, voided}
 use Rattle.core_rules.specs.Settling.{created, dropped, is_unmarked, live_on, lost_marked, mark_lost, new_job, new_ticket, settle_for, stays, targets, wanted}
 use Rattle.core_rules.specs.Steps.{Accepted, at_time, change, step}
-use Rattle.core_rules.proofs.Helpers.{all_filter, all_push, chosen}
+use Rattle.core_rules.proofs.Helpers.{all_filter, all_push}
 use Rattle.core_rules.proofs.Moves.{Aside, Ended, Gone, Marked, Moved, Noted, Took, accepts}
 use Rattle.core_rules.proofs.Numbers.{frame_of, marked_number, next_bounded, now_bounded}
 use Rattle.core_rules.proofs.Rising.{all_map, all_with, found_in}
 use Rattle.core_rules.proofs.Settling.{kept_by_creating, same_settled}
 use Rattle.core_rules.proofs.Trying.{Holds, barred, by_test, either, idles, makes}
+use Rattle.value_core.proofs.Basics.{cond_is}
 
 -- ---- tickets, starts, rates, pauses and hints
 
@@ -67,7 +68,7 @@ hints_noted n w (Some t) hints l h k v e = by_hint t.hint e
   where
     by_hint : (o : Option (List ℕ)) → get (with_hint w t.pool o hints) k ≡ Some v → v < n
     by_hint None f = h k v f
-    by_hint (Some x) f = elim (chosen {A = Option ℕ} (eq_by_cmp hint_key_cmp k (record { pool = t.pool; hint = x })) (Some w) (get hints k) (Some v) (sym (get-insert hint_key_total hints (record { pool = t.pool; hint = x }) w k) ∙ f)) [
+    by_hint (Some x) f = elim (cond_is {A = Option ℕ} (eq_by_cmp hint_key_cmp k (record { pool = t.pool; hint = x })) (Some w) (get hints k) (Some v) (sym (get-insert hint_key_total hints (record { pool = t.pool; hint = x }) w k) ∙ f)) [
       | inl i ↦ let is : w ≡ v = (let g = i.1 in cc) in subst (λ z. z < n) is l
       | inr i ↦ h k v i.1
     ]
@@ -90,7 +91,7 @@ keyed_insert rows k r is one h k' r' e = elim (eq_by_cmp row_key_cmp k' k) as (�
 ] refl (sym (get-insert row_key_cmp_total rows k r k') ∙ e)
 
 pub keyed_remove : (rows : Rows) (k : RowKey) → AreRowsKeyed rows → AreRowsKeyed (remove rows k)
-keyed_remove rows k h k' r' e = elim (chosen {A = Option Row} (eq_by_cmp row_key_cmp k' k) None (get rows k') (Some r') (sym (get-remove row_key_cmp_total rows k k') ∙ e)) [
+keyed_remove rows k h k' r' e = elim (cond_is {A = Option Row} (eq_by_cmp row_key_cmp k' k) None (get rows k') (Some r') (sym (get-remove row_key_cmp_total rows k k') ∙ e)) [
   | inl i ↦ let z : ⊥ = (let f = i.1 in cc) in absurd z
   | inr i ↦ h k' r' i.1
 ]

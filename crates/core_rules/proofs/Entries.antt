@@ -8,7 +8,7 @@ use Rattle.std.specs.Ordering.{eq_by_cmp}
 use Rattle.std.specs.FinMap.{entries, get-entries}
 use Rattle.std.specs.FinMap.Entries.{find as find_entry}
 use Rattle.value_core.specs.declared.state.Triple.{Triple}
-use Rattle.core_rules.proofs.Helpers.{any-append, bytes_itself, triple_same}
+use Rattle.core_rules.proofs.Helpers.{any-append}
 use Rattle.core_rules.specs.Core.{CoreState, op_of, unstarted}
 use Rattle.core_rules.specs.Entries.{entry_by, entry_in, job_of, known, row_at, row_triple, row_triples, with_value, world}
 use Rattle.core_rules.specs.declared.jobs.Job.{Job}
@@ -21,6 +21,7 @@ use Rattle.term_core.specs.World.{entry_of, found_in, stage_or_ready}
 use Rattle.value_core.specs.Orders.{same_triple}
 use Rattle.term_core.specs.declared.entries.Entry.{Entry}
 use Rattle.term_core.specs.declared.entries.Entry.TheVariants as entry
+use Rattle.value_core.proofs.Basics.{same_bytes, triple_same}
 
 -- a list of triples with their own entries gives each its own, if that is the entry of all others
 found_own : (f : Triple → Entry) (us : List Triple) (other : Entry) (t : Triple) → (list_any (λ u. same_triple u t) us ≡ false → other ≡ f t) → found_in (map (λ u. (u, f u)) us) other t ≡ f t
@@ -60,13 +61,13 @@ no_row_of name t (e ∷ es) h =
     elim (eq_by_cmp row_key_cmp q e.0) as (λ b. eq_by_cmp row_key_cmp q e.0 ≡ b → option_and_then (with_value t.value) (cond b (Some e.1) (find_entry row_key_cmp q es)) ≡ None) [
       | true ↦ λ is.
           let n = keys_same q e.0 is in
-          let same : bytes_eq e.0.op name ≡ true = bytes_itself e.0.op name (sym n.0) in
+          let same : bytes_eq e.0.op name ≡ true = same_bytes e.0.op name (sym n.0) in
           let none : list_any (λ u. same_triple u t) (row_triple t.op e ∷ map (row_triple t.op) (filter (λ e. bytes_eq e.0.op name) es)) ≡ false =
           subst (λ c. list_any (λ u. same_triple u t) (cond c (row_triple t.op e ∷ map (row_triple t.op) (filter (λ e. bytes_eq e.0.op name) es)) (map (row_triple t.op) (filter (λ e. bytes_eq e.0.op name) es))) ≡ false) same all in
           let other = (or_parts (same_triple (row_triple t.op e) t) _ none).0 in
           elim (bytes_eq e.1.value t.value) as (λ b. bytes_eq e.1.value t.value ≡ b → (if b then Some e.1 else None) ≡ None) [
             | true ↦ λ v. absurd (both_ways _ other (and_from (t.op == t.op && bytes_eq e.0.key t.key) (bytes_eq e.1.value t.value)
-                (and_from (t.op == t.op) (bytes_eq e.0.key t.key) (eq-eqb t.op t.op refl) (bytes_itself e.0.key t.key (sym n.1))) v))
+                (and_from (t.op == t.op) (bytes_eq e.0.key t.key) (eq-eqb t.op t.op refl) (same_bytes e.0.key t.key (sym n.1))) v))
             | false ↦ λ v. refl
           ] refl
       | false ↦ λ is. no_row_of name t es (any_tail (λ u. same_triple u t) (bytes_eq e.0.op name) (row_triple t.op e) _ all)

@@ -1,21 +1,12 @@
 -- Small laws of options, choices, lists and triples.
-use Rattle.std.proofs.Common.{◌≡◌, ℕ, Bool, true, false, cond, ◌&&◌, ◌||◌, ◌⊎◌, inl, inr, List, [], ◌∷◌, ◌++◌, Option, Some, None, refl, ap}
-use Rattle.std.proofs.lemmas.Bool.{cond_both, and_parts, and_from, eqb-true, eq-eqb}
+use Rattle.std.proofs.Common.{◌≡◌, Bool, true, false, cond, ◌&&◌, ◌||◌, ◌⊎◌, inl, inr, List, [], ◌∷◌, ◌++◌, Option, Some, None, refl}
+use Rattle.std.proofs.lemmas.Bool.{cond_both}
 use Rattle.std.specs.Prelude.{filter, ◌==◌, option_and_then}
 use Rattle.std.specs.List.{AllByRecursion, find, list_any}
-use Rattle.std.specs.Str.{bytes_eq}
-use Rattle.std.specs.Cmp.Lexicographic.{bytes_decides}
-use Rattle.value_core.specs.declared.state.Triple.{Triple}
-use Rattle.value_core.specs.Orders.{same_triple}
 
 pub then_some : {A B : Type 0} (f : A → Option B) (o : Option A) (y : B) → option_and_then f o ≡ Some y → (x : A) × (o ≡ Some x) × (f x ≡ Some y)
 then_some f None y e = let h : ⊥ = cc in absurd h
 then_some f (Some x) y e = (x, refl, e)
-
--- which way a choice went
-pub chosen : {A : Type 0} (b : Bool) (x y z : A) → cond b x y ≡ z → ((b ≡ true) × (x ≡ z)) ⊎ ((b ≡ false) × (y ≡ z))
-chosen true x y z e = inl (refl, e)
-chosen false x y z e = inr (refl, e)
 
 pub second_choice : {A : Type 0} (b c : Bool) (x y z : A) → cond b (Some x) (cond c (Some y) None) ≡ Some z → (x ≡ z) ⊎ ((b ≡ false) × ((c ≡ true) × (y ≡ z)))
 second_choice true c x y z e = inl cc
@@ -33,25 +24,6 @@ find-push p (w ∷ xs) y x e = elim (p w) as (λ b. cond b (Some w) (find p xs) 
 pub find-push_new : {X : Type 0} (p : X → Bool) (xs : List X) (y : X) → find p xs ≡ None → find p (xs ++ y ∷ []) ≡ cond (p y) (Some y) None
 find-push_new p [] y e = refl
 find-push_new p (w ∷ xs) y e = elim (p w) as (λ b. cond b (Some w) (find p xs) ≡ None → cond b (Some w) (find p (xs ++ y ∷ [])) ≡ cond (p y) (Some y) None) [ true ↦ (λ h. let k : ⊥ = cc in absurd k) | false ↦ find-push_new p xs y ] e
-
-pub bytes_same : (xs ys : List ℕ) → bytes_eq xs ys ≡ true → xs ≡ ys
-bytes_same xs ys = (bytes_decides xs ys).0
-
-pub bytes_itself : (xs ys : List ℕ) → xs ≡ ys → bytes_eq xs ys ≡ true
-bytes_itself xs ys = (bytes_decides xs ys).1
-
-pub triple_same : (a b : Triple) → same_triple a b ≡ true → a ≡ b
-triple_same a b e =
-    let h = and_parts (a.op == b.op && bytes_eq a.key b.key) (bytes_eq a.value b.value) e in
-    let k = and_parts (a.op == b.op) (bytes_eq a.key b.key) h.0 in
-    let p = eqb-true a.op b.op k.0 in
-    let q = bytes_same a.key b.key k.1 in
-    let r = bytes_same a.value b.value h.1 in
-    λ i. record { op = p i; key = q i; value = r i }
-
-pub triple_itself : (a b : Triple) → a ≡ b → same_triple a b ≡ true
-triple_itself a b e = and_from (a.op == b.op && bytes_eq a.key b.key) (bytes_eq a.value b.value)
-    (and_from (a.op == b.op) (bytes_eq a.key b.key) (eq-eqb a.op b.op (ap (λ t. t.op) e)) (bytes_itself a.key b.key (ap (λ t. t.key) e))) (bytes_itself a.value b.value (ap (λ t. t.value) e))
 
 -- ---- all of a list
 

@@ -9,8 +9,8 @@ use Rattle.core_rules.proofs.Reach.{kept_by, one_start, one_step}
 use Rattle.core_rules.proofs.Referred.{referred_settled, referred_step}
 use Rattle.core_rules.proofs.Tickets.{ticketed_start, ticketed_step}
 use Rattle.core_rules.specs.Core.{CoreState}
-use Rattle.core_rules.specs.Laws.{Invariant}
-use Rattle.core_rules.specs.Openings.{Durable, IsOpenable, opened, start}
+use Rattle.core_rules.specs.Laws.{Invariant, IsLawful}
+use Rattle.core_rules.specs.Openings.{Durable, IsDurable, IsOpenable, opened, start}
 use Rattle.core_rules.specs.Replays.{Leads, Replays}
 use Rattle.core_rules.specs.declared.log.Logged.{Logged}
 use Rattle.core_rules.specs.declared.done.Done.{Done}
@@ -20,26 +20,40 @@ use Rattle.op_keys.specs.declared.level.Level.{Level}
 use Rattle.term_core.specs.Limits.{IsWithinLimits}
 use Rattle.term_core.specs.declared.program.Program.{Program}
 
-pub invariant_at_opening : (program : Program) (durable : Durable) (threshold : Option Level) (reading : ℕ) (s : CoreState) → IsWithinLimits program → IsOpenable durable → start program durable threshold reading ≡ Some s → Invariant s
+pub lawful_at_opening : (program : Program) (durable : Durable) (threshold : Option Level) (reading : ℕ) (s : CoreState) → IsDurable durable → start program durable threshold reading ≡ Some s → IsLawful s
 unfolding start
-invariant_at_opening program durable threshold reading s within openable h = let d = durable_from durable openable in record {
+lawful_at_opening program durable threshold reading s d h = record {
   one_each = one_start program durable threshold reading s h;
   within = within_start program durable threshold reading s h;
   numbered = numbered_start program durable threshold reading s d h;
   ticketed = ticketed_start program durable threshold reading s d h;
   tickets_own = own_start program durable threshold reading s d h;
   referred = referred_settled (opened program durable threshold reading) s h;
-  bounded = bounded_at_opening program durable threshold reading s within openable h;
 }
 
-pub invariant_through_step : (s : CoreState) (e : Event) (s' : CoreState) (r : Done) → step s e ≡ Accepted s' r → Invariant s → Invariant s'
-invariant_through_step s e s' r h i = record {
+pub lawful_through_step : (s : CoreState) (e : Event) (s' : CoreState) (r : Done) → step s e ≡ Accepted s' r → IsLawful s → IsLawful s'
+lawful_through_step s e s' r h i = record {
   one_each = one_step s e s' r h i.one_each;
   within = within_step s e s' r h i.within;
   numbered = numbered_step s e s' r h i.numbered;
   ticketed = ticketed_step s e s' r h i.numbered i.ticketed;
   tickets_own = own_step s e s' r h i.numbered i.ticketed i.tickets_own;
   referred = referred_step s e s' r h;
+}
+
+pub lawful_after_replays : (program : Program) (durable : Durable) (threshold : Option Level) (reading : ℕ) (s : CoreState) (es : List Logged) (t : CoreState) →
+    IsDurable durable → start program durable threshold reading ≡ Some s → Replays s es t → IsLawful t
+lawful_after_replays program durable threshold reading s es t d h k = kept_by IsLawful lawful_through_step s t es k (lawful_at_opening program durable threshold reading s d h)
+
+pub invariant_at_opening : (program : Program) (durable : Durable) (threshold : Option Level) (reading : ℕ) (s : CoreState) → IsWithinLimits program → IsOpenable durable → start program durable threshold reading ≡ Some s → Invariant s
+invariant_at_opening program durable threshold reading s within openable h = record {
+  lawful = lawful_at_opening program durable threshold reading s (durable_from durable openable) h;
+  bounded = bounded_at_opening program durable threshold reading s within openable h;
+}
+
+pub invariant_through_step : (s : CoreState) (e : Event) (s' : CoreState) (r : Done) → step s e ≡ Accepted s' r → Invariant s → Invariant s'
+invariant_through_step s e s' r h i = record {
+  lawful = lawful_through_step s e s' r h i.lawful;
   bounded = bounded_through_step s e s' r h i.bounded;
 }
 

@@ -2,10 +2,12 @@ pub mod Helpers
 pub mod Entries
 pub mod Settling
 pub mod Live
+pub mod Trying
 pub mod Moves
 pub mod Reach
 pub mod Rising
 pub mod Numbers
+pub mod Programs
 pub mod Loads
 pub mod Referred
 pub mod Starts
@@ -15,7 +17,6 @@ pub mod OwnTickets
 pub mod Published
 pub mod Invariant
 pub mod Parts
-pub mod Trying
 pub mod Storing
 pub mod Bounded
 pub mod Cases

@@ -5,12 +5,13 @@ use Rattle.std.specs.Prelude.{◌==◌, filter, if◌then◌else◌}
 use Rattle.std.specs.List.{find}
 use Rattle.std.specs.Str.{bytes_eq}
 use Rattle.value_core.specs.declared.state.Triple.{Triple}
-use Rattle.core_rules.proofs.Helpers.{bytes_itself, bytes_same, find-push_new}
+use Rattle.core_rules.proofs.Helpers.{find-push_new}
 use Rattle.core_rules.proofs.Settling.{kept_by_creating, marked_triple}
 use Rattle.core_rules.specs.Core.{CoreState, with_job}
 use Rattle.core_rules.specs.Laws.{OneEach}
 use Rattle.core_rules.specs.Settling.{dropped, live_on, lost_marked, mark_lost, new_job, on_key, settle_for, stays, targets}
 use Rattle.core_rules.specs.declared.jobs.Job.{Job}
+use Rattle.value_core.proofs.Basics.{bytes_same, same_bytes}
 
 -- a test that fails at each job of a list fails at each that stays
 pub find-filter_none : (p q : Job → Bool) (js : List Job) → find p js ≡ None → find p (filter q js) ≡ None
@@ -68,7 +69,7 @@ pub on_key_back : (t u : Triple) → on_key u.op u.key t ≡ false → on_key t.
 on_key_back t u e = false_from_ne_true (on_key t.op t.key u) (λ h.
     let k = and_parts (u.op == t.op) (bytes_eq u.key t.key) h in
     both_ways (on_key u.op u.key t) e (and_from (t.op == u.op) (bytes_eq t.key u.key)
-    (eq-eqb t.op u.op (sym (eqb-true u.op t.op k.0))) (bytes_itself t.key u.key (sym (bytes_same u.key t.key k.1)))))
+    (eq-eqb t.op u.op (sym (eqb-true u.op t.op k.0))) (same_bytes t.key u.key (sym (bytes_same u.key t.key k.1)))))
 
 pub one_each_push : (js : List Job) (k : Job) → OneEach js → live_on js k.triple.op k.triple.key ≡ None → OneEach (js ++ k ∷ [])
 one_each_push [] k h e = (refl, tt)

@@ -3,7 +3,6 @@ use Rattle.std.proofs.Common.{◌≡◌, ℕ, ◌+◌, ◌<◌, ◌≤◌, Bool,
 use Rattle.std.proofs.lemmas.Bool.{cond_both, or_parts, leb-false, eqb-true}
 use Rattle.std.specs.Prelude.{◌==◌, filter, if◌then◌else◌, option_map, slice_get}
 use Rattle.value_core.specs.declared.state.Triple.{Triple}
-use Rattle.core_rules.proofs.Helpers.{chosen}
 use Rattle.core_rules.proofs.Moves.{Aside, Ended, Gone, Marked, Moved, Noted, Took, accepts}
 use Rattle.core_rules.proofs.Settling.{kept_by_creating}
 use Rattle.core_rules.specs.Core.{CoreState, layout_of, with_job, without_job}
@@ -19,6 +18,7 @@ use Rattle.fair_pool.specs.Fair.{is_full, is_paused, next_ticket}
 use Rattle.fair_pool.specs.Layouts.{capacity_of}
 use Rattle.op_keys.specs.declared.level.Level.{Level}
 use Rattle.term_core.specs.declared.program.Program.{Program}
+use Rattle.value_core.proofs.Basics.{cond_is}
 
 -- one more or none
 abbrev one_if : Bool → ℕ
@@ -49,7 +49,7 @@ load_taken n (j ∷ js) w v = cond_both {A = List Job} (j.number == n) _ _ (λ k
     (λ _. omega arith) (λ _. let h = load_taken n js w v in omega arith)
 
 pub picked_free : (s : CoreState) (w n : ℕ) → picked s w ≡ Some n → load s.jobs w < capacity_of (slice_get s.program.workers w)
-picked_free s w n h = elim (chosen {A = Option ℕ} (is_paused s.fair w || is_full (layout_of s.program) (load s.jobs) w) None (option_map (λ k. k.job) (next_ticket (layout_of s.program) s.fair (ready s) (load s.jobs) s.now w)) (Some n) h) [
+picked_free s w n h = elim (cond_is {A = Option ℕ} (is_paused s.fair w || is_full (layout_of s.program) (load s.jobs) w) None (option_map (λ k. k.job) (next_ticket (layout_of s.program) s.fair (ready s) (load s.jobs) s.now w)) (Some n) h) [
   | inl i ↦ let z : ⊥ = (let f = i.1 in cc) in absurd z
   | inr i ↦ leb-false (capacity_of (slice_get s.program.workers w)) (load s.jobs w) (or_parts (is_paused s.fair w) (is_full (layout_of s.program) (load s.jobs) w) i.0).1
 ]
@@ -89,7 +89,7 @@ within_moved s t (Took w n j p is new) h = subst (λ z. WithinCapacity z.program
 within_created : (s : CoreState) (u : Triple) → WithinCapacity s.program s.jobs → WithinCapacity s.program (created s u).jobs
 within_created s u h = within_like s.program s.program s.jobs (s.jobs ++ new_job s.next u ∷ []) refl (λ v. let a = load_push s.jobs s.next u v in omega arith) h
 
-marked_worker : (ws : List Triple) (s : CoreState) (j : Job) → (mark_lost ws s j).worker ≡ j.worker
+pub marked_worker : (ws : List Triple) (s : CoreState) (j : Job) → (mark_lost ws s j).worker ≡ j.worker
 marked_worker ws s j = cond_both {A = Job} (is_lost ws s j) _ _ (λ k. k.worker ≡ j.worker) (λ _. refl) (λ _. refl)
 
 pub within_settled : (ws : List Triple) (s s' : CoreState) → settle_for ws s ≡ Some s' → WithinCapacity s.program s.jobs → WithinCapacity s'.program s'.jobs

@@ -28,6 +28,7 @@ use Rattle.sched_rows.specs.declared.row.Row.{Row}
 use Rattle.term_core.specs.declared.program.InputDecl.{InputDecl}
 use Rattle.core_rules.specs.declared.events.Refusal.TheVariants as refusal
 use Rattle.core_rules.specs.declared.events.What.TheVariants as what
+use Rattle.core_rules.proofs.Trying.{made}
 
 -- what no own change touches
 pub record Frame (s t : CoreState) : Type 0 where
@@ -59,9 +60,6 @@ pub data Moved (s t : CoreState) : Type 0 where
   Marked : Frame s t → t.jobs ≡ s.jobs → (k : RowKey) (r : Row) → get s.rows k ≡ Some r → t.rows ≡ insert s.rows k (record r { rebuild = true }) → t.fair.tickets ≡ s.fair.tickets → Moved s t
   -- a job is taken
   Took : (w n : ℕ) (j : Job) → picked s w ≡ Some n → job_numbered s.jobs n ≡ Some j → t ≡ taken s w j → Moved s t
-
-made : (x c : Change) → Makes x ≡ Makes c → x ≡ c
-made x c e = cc
 
 abbrev Moves : CoreState → Tried → Type 0
 Moves s x = (c : Change) → x ≡ Makes c → Moved s c.state

@@ -6,7 +6,7 @@ use Rattle.std.specs.Ordering.{eq_by_cmp}
 use Rattle.std.specs.FinMap.{get, insert, remove, entries, get-insert, get-remove, get-entries}
 use Rattle.std.specs.FinMap.Entries.{find as find_entry}
 use Rattle.value_core.specs.declared.state.Triple.{Triple}
-use Rattle.core_rules.proofs.Helpers.{all_filter, all_push, chosen}
+use Rattle.core_rules.proofs.Helpers.{all_filter, all_push}
 use Rattle.core_rules.proofs.Moves.{Aside, Ended, Frame, Gone, Marked, Moved, Noted, Took, accepts}
 use Rattle.core_rules.proofs.Rising.{all_map, all_with, below_more, found_below, rising_filter, rising_map, rising_push, rising_with}
 use Rattle.core_rules.proofs.Settling.{kept_by_creating, same_settled}
@@ -24,6 +24,7 @@ use Rattle.sched_rows.specs.RowKeys.{RowKey, row_key_cmp, row_key_cmp_total}
 use Rattle.sched_rows.specs.Rows.{Rows}
 use Rattle.sched_rows.specs.declared.row.Row.{Row}
 use Rattle.term_core.specs.declared.program.Program.{Program}
+use Rattle.value_core.proofs.Basics.{cond_is}
 
 abbrev pub NumberedState : CoreState → Type 0
 NumberedState s = Numbered s.now s.next s.rows s.jobs
@@ -41,13 +42,13 @@ rows_more : (now now' next next' : ℕ) (rows : Rows) → now ≤ now' → next 
 rows_more now now' next next' rows p q h k r e = let i = h k r e in (omega (arith, i.0), omega (arith, i.1))
 
 rows_insert : (now next : ℕ) (rows : Rows) (k : RowKey) (r : Row) → r.finished ≤ now → r.job < next → RowsWithin now next rows → RowsWithin now next (insert rows k r)
-rows_insert now next rows k r p q h k' r' e = elim (chosen (eq_by_cmp row_key_cmp k' k) (Some r) (get rows k') (Some r') (sym (get-insert row_key_cmp_total rows k r k') ∙ e)) [
+rows_insert now next rows k r p q h k' r' e = elim (cond_is (eq_by_cmp row_key_cmp k' k) (Some r) (get rows k') (Some r') (sym (get-insert row_key_cmp_total rows k r k') ∙ e)) [
   | inl i ↦ let is : r ≡ r' = (let f = i.1 in cc) in (subst (λ x. x.finished ≤ now) is p, subst (λ x. x.job < next) is q)
   | inr i ↦ h k' r' i.1
 ]
 
 rows_remove : (now next : ℕ) (rows : Rows) (k : RowKey) → RowsWithin now next rows → RowsWithin now next (remove rows k)
-rows_remove now next rows k h k' r' e = elim (chosen (eq_by_cmp row_key_cmp k' k) None (get rows k') (Some r') (sym (get-remove row_key_cmp_total rows k k') ∙ e)) [
+rows_remove now next rows k h k' r' e = elim (cond_is (eq_by_cmp row_key_cmp k' k) None (get rows k') (Some r') (sym (get-remove row_key_cmp_total rows k k') ∙ e)) [
   | inl i ↦ let z : ⊥ = (let f = i.1 in cc) in absurd z
   | inr i ↦ h k' r' i.1
 ]
@@ -153,7 +154,7 @@ latest_from t (e ∷ es) = let h = latest_from (max t e.1.finished) es in omega 
 
 latest_bounds : (t : ℕ) (es : List (RowKey × Row)) (k : RowKey) (r : Row) → find_entry row_key_cmp k es ≡ Some r → r.finished ≤ latest t es
 latest_bounds t [] k r h = let z : ⊥ = cc in absurd z
-latest_bounds t (e ∷ es) k r h = elim (chosen (eq_by_cmp row_key_cmp k e.0) (Some e.1) (find_entry row_key_cmp k es) (Some r) h) [
+latest_bounds t (e ∷ es) k r h = elim (cond_is (eq_by_cmp row_key_cmp k e.0) (Some e.1) (find_entry row_key_cmp k es) (Some r) h) [
   | inl i ↦
       let is : e.1 ≡ r = (let f = i.1 in cc) in
       let l = latest_from (max t e.1.finished) es in

@@ -2,7 +2,6 @@
 use Rattle.std.proofs.Common.{◌≡◌, ℕ, ◌+◌, Bool, true, false, List, [], ◌∷◌, Option, Some, None, map, refl, ap, ◌∙◌}
 use Rattle.std.specs.Prelude.{codes, if◌then◌else◌}
 use Rattle.std.specs.FinMap.{empty}
-use Rattle.value_core.specs.declared.value.Value.{Value}
 use Rattle.value_core.specs.declared.value.Value as V
 use denote.Hole.Carrier as C
 use Rattle.value_core.specs.declared.value.Value.TheVariants as value
@@ -22,7 +21,7 @@ use Rattle.term_core.specs.declared.entries.Entry.{Entry}
 use Rattle.term_core.specs.declared.program.Program.{Program}
 use Rattle.term_core.specs.declared.program.Term.{Term, Term-F}
 use Rattle.term_core.specs.declared.program.Term.TheVariants as term
-use Rattle.term_core.specs.Evaluation.{Context, context_of, Meaning, entry_state, term_step, eval}
+use Rattle.term_core.specs.Evaluation.{Context, context_of, entry_state, term_step, eval}
 use Rattle.term_core.specs.Evaluation as E
 use Rattle.term_core.specs.Fresh.{FreshRun}
 use Rattle.term_core.specs.Fresh as nodes

@@ -6,7 +6,7 @@ use Rattle.value_core.specs.declared.state.Stage.TheVariants.{Running}
 use Rattle.std.specs.Prelude.{◌==◌, ◌&&◌, slice_index, slice_get, ◌^◌, nat_lt, option_map, option_and_then, if◌then◌else◌}
 use Rattle.value_core.specs.declared.value.Value.{Value}
 use Rattle.value_core.specs.declared.state.Triple.{Triple}
-use Rattle.core_rules.proofs.Queued.{queued, queued_cons}
+use Rattle.core_rules.proofs.Queued.{queued, queued_cons, numbers}
 use Rattle.core_rules.specs.Core.{CoreState, is_queued, job_numbered, layout_of, may_start, op_of, stage, when_allowed}
 use Rattle.core_rules.specs.Laws.{Ticketed, WithinCapacity}
 use Rattle.core_rules.specs.Orders.{is_ready, is_ready_job, load, picked, ready}
@@ -50,13 +50,10 @@ settle_by_work us s = settle_dressed s.inputs s.version us (core_of (work_of s) 
 abbrev pub among : List ℕ → ℕ → Bool
 among ns n = list_any (λ m. m == n) ns
 
-abbrev jobs_in : List Ticket → List ℕ
-jobs_in ks = map (λ k. k.job) ks
-
 -- the flags of tickets by a test of their jobs tell the test, where there is a ticket
-flags_by_test : (f : ℕ → Bool) (n : ℕ) (ks : List Ticket) → flag_of n ks (map (λ k. f k.job) ks) ≡ (among (jobs_in ks) n && f n)
+flags_by_test : (f : ℕ → Bool) (n : ℕ) (ks : List Ticket) → flag_of n ks (map (λ k. f k.job) ks) ≡ (among (numbers ks) n && f n)
 flags_by_test f n [] = refl
-flags_by_test f n (k ∷ ks) = elim (k.job == n) as (λ b. (k.job == n) ≡ b → (if b then f k.job else flag_of n ks (map (λ k. f k.job) ks)) ≡ ((b || among (jobs_in ks) n) && f n)) [
+flags_by_test f n (k ∷ ks) = elim (k.job == n) as (λ b. (k.job == n) ≡ b → (if b then f k.job else flag_of n ks (map (λ k. f k.job) ks)) ≡ ((b || among (numbers ks) n) && f n)) [
   | true ↦ λ e. ap f (eqb-true k.job n e)
   | false ↦ λ e. flags_by_test f n ks
 ] refl

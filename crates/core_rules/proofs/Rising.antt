@@ -1,10 +1,10 @@
 -- Numbers of jobs below and above a number, and rising.
-use Rattle.std.proofs.Common.{◌≡◌, ℕ, ◌<◌, ◌≤◌, Bool, true, false, cond, List, [], ◌∷◌, ◌++◌, map, Some, sym, subst, arith}
-use Rattle.std.proofs.lemmas.Bool.{cond_both}
-use Rattle.std.specs.Prelude.{◌==◌, filter}
+use Rattle.std.proofs.Common.{◌≡◌, ℕ, ◌<◌, ◌≤◌, Bool, true, false, cond, List, [], ◌∷◌, ◌++◌, map, Some, refl, ap, ◌∙◌, sym, subst, arith}
+use Rattle.std.proofs.lemmas.Bool.{cond_both, ne_eqb}
+use Rattle.std.specs.Prelude.{◌==◌, filter, not}
 use Rattle.std.specs.List.{AllByRecursion}
 use Rattle.core_rules.proofs.Helpers.{all_filter, all_push}
-use Rattle.core_rules.specs.Core.{job_numbered, with_job}
+use Rattle.core_rules.specs.Core.{job_numbered, with_job, without_job}
 use Rattle.core_rules.specs.Laws.{JobsAbove, JobsBelow, Rising}
 use Rattle.core_rules.specs.declared.jobs.Job.{Job}
 
@@ -54,3 +54,10 @@ rising_map f (j ∷ js) k h = (subst (λ x. JobsAbove x (map f js)) (sym (k j)) 
 pub rising_push : (js : List Job) (j : Job) → JobsBelow j.number js → Rising js → Rising (js ++ j ∷ [])
 rising_push [] j b h = (tt, tt)
 rising_push (i ∷ js) j b h = (all_push (λ (k : Job). i.number < k.number) js j h.0 b.0, rising_push js j b.1 h.1)
+
+-- jobs above a number don't have it
+pub none_numbered : (n : ℕ) (js : List Job) → JobsAbove n js → without_job n js ≡ js
+none_numbered n [] h = refl
+none_numbered n (j ∷ js) h =
+    let other : (j.number == n) ≡ false = ne_eqb j.number n (λ e. absurd (omega (arith, h.0, e))) in
+    ap (λ b. cond (not b) (j ∷ without_job n js) (without_job n js)) other ∙ ap (λ ks. j ∷ ks) (none_numbered n js h.1)

@@ -1,16 +1,13 @@
 -- Settling changes no wanted triple's entry.
 use Rattle.std.proofs.Common.{◌≡◌, ℕ, ◌+◌, ◌^◌, Bool, true, false, cond, ◌||◌, ◌⊎◌, inl, inr, List, [], ◌∷◌, ◌++◌, map, Option, Some, None, is_some, refl, ap, sym, ◌∙◌, subst, arith}
-use Rattle.std.proofs.lemmas.Bool.{and_parts, or_parts, cond_both, lt-ltb, or_left, or_right}
+use Rattle.std.proofs.lemmas.Bool.{or_parts, cond_both, lt-ltb, or_left, or_right}
 use Rattle.std.specs.List.{AllByRecursion}
 use Rattle.std.specs.Prelude.{filter, option_map, if◌then◌else◌, nat_lt}
-use Rattle.std.specs.Ordering.{nat_cmp, ordering_then, is_eq}
 use Rattle.std.proofs.Common.{Less, Equal, Greater, zero-add}
-use Rattle.std.specs.Cmp.{Equal-is, tied_then}
-use Rattle.std.specs.FinMap.{nat_cmp-IsAntisymmetric, slice_cmp-IsAntisymmetric}
 use Rattle.std.specs.FinMap.Entries.{by_order}
 use Rattle.value_core.specs.declared.state.Triple.{Triple}
 use Rattle.core_rules.proofs.Entries.{world_entry}
-use Rattle.core_rules.proofs.Helpers.{find-push, find-push_new, then_some, triple_itself, triple_same, second_choice}
+use Rattle.core_rules.proofs.Helpers.{find-push, find-push_new, then_some, second_choice}
 use Rattle.core_rules.specs.Core.{CoreState, is_latched, may_start, op_of, stage, unstarted, when_allowed}
 use Rattle.core_rules.specs.Entries.{entry_by, entry_in, fresh_of, job_of, outcome, row_of, wants, world}
 use Rattle.term_core.specs.Counts.{count_of}
@@ -19,7 +16,6 @@ use Rattle.term_core.specs.Counts.{in_order, is_wanted, with_triple}
 use Rattle.value_core.specs.Orders.{triple_cmp}
 use Rattle.core_rules.specs.declared.jobs.Job.{Job}
 use Rattle.op_keys.specs.declared.declarations.OpDecl.{OpDecl}
-use Rattle.value_core.specs.Orders.{bytes_cmp}
 use Rattle.sched_rows.specs.declared.row.Row.{Row}
 use Rattle.term_core.proofs.Agreeing.{fresh_local}
 use Rattle.term_core.specs.Fresh.{fresh}
@@ -27,6 +23,7 @@ use Rattle.term_core.specs.Laws.{Agree}
 use Rattle.term_core.specs.World.{World, entry_of}
 use Rattle.value_core.specs.Orders.{same_triple}
 use Rattle.term_core.specs.declared.entries.Entry.TheVariants as entry
+use Rattle.value_core.proofs.Basics.{triple_same, same_triples, triples_tie}
 
 -- ---- 1. jobs that go
 
@@ -134,7 +131,7 @@ same_settled ws s s' e = kept_by_creating (Same s) (λ z u _ _ p. record { progr
 -- ---- states and wants stay
 
 pub counted_first : (t : Triple) (ts : List Triple) → is_wanted (t ∷ ts) t ≡ true
-counted_first t ts = or_left (same_triple t t) (is_wanted ts t) (triple_itself t t refl)
+counted_first t ts = or_left (same_triple t t) (is_wanted ts t) (same_triples t t refl)
 
 pub counted_later : (t u : Triple) (ts : List Triple) → is_wanted ts t ≡ true → is_wanted (u ∷ ts) t ≡ true
 counted_later t u ts w = or_right (same_triple u t) (is_wanted ts t) w
@@ -164,19 +161,6 @@ swapped true true r = refl
 swapped true false r = refl
 swapped false true r = refl
 swapped false false r = refl
-
-triples_tie : (t u : Triple) → triple_cmp t u ≡ Equal → t ≡ u
-triples_tie t u e =
-    let a = nat_cmp t.op u.op in
-    let b = bytes_cmp t.key u.key in
-    let c = bytes_cmp t.value u.value in
-    let h = and_parts (is_eq a) (is_eq (ordering_then b c)) (tied_then a (ordering_then b c) ∙ ap is_eq e) in
-    let k = and_parts (is_eq b) (is_eq c) (tied_then b c ∙ h.1) in
-    let p = nat_cmp-IsAntisymmetric t.op u.op ((Equal-is a).0 h.0) in
-    let same = slice_cmp-IsAntisymmetric nat_cmp-IsAntisymmetric in
-    let q = same t.key u.key ((Equal-is b).0 k.0) in
-    let r = same t.value u.value ((Equal-is c).0 k.1) in
-    λ i. record { op = p i; key = q i; value = r i }
 
 wanted-with : (t : Triple) (us : List Triple) (u : Triple) → is_wanted (with_triple t us) u ≡ (same_triple t u || is_wanted us u)
 wanted-with t [] u = refl

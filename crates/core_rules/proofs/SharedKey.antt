@@ -19,7 +19,7 @@ use Rattle.term_core.specs.declared.entries.Entry.{Entry}
 use Rattle.term_core.specs.declared.program.Program.{Program}
 use Rattle.term_core.specs.declared.program.Term.{Term}
 use Rattle.term_core.specs.declared.program.Term.TheVariants as term
-use Rattle.term_core.specs.Evaluation.{Context, Meaning, entry_state, eval, context_of}
+use Rattle.term_core.specs.Evaluation.{Context, entry_state, eval, context_of}
 use Rattle.term_core.specs.Evaluation as E
 use Rattle.term_core.specs.Fresh.{FreshRun}
 use Rattle.term_core.specs.Fresh as nodes

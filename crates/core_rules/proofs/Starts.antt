@@ -7,7 +7,7 @@ use Rattle.std.specs.FinMap.{get}
 use Rattle.value_core.specs.declared.value.Value.{Value}
 use Rattle.value_core.specs.declared.state.Stage.{Stage}
 use Rattle.value_core.specs.declared.state.Stage.TheVariants.{Ready, Waiting, Running}
-use Rattle.core_rules.proofs.Helpers.{chosen, filter_passes}
+use Rattle.core_rules.proofs.Helpers.{filter_passes}
 use Rattle.core_rules.proofs.Moves.{accepts}
 use Rattle.core_rules.specs.Changes.{Change, Idles, Makes, Refuses, Tried, cancel, confirm, confirm_at, input_index, pause, rebuild, rebuild_free, rebuild_row, set_input, set_rate, takes}
 use Rattle.core_rules.specs.Core.{CoreState, job_numbered, layout_of, may_start, op_of, stage, when_allowed}
@@ -35,6 +35,7 @@ use Rattle.sched_rows.specs.declared.row.Row.{Row}
 use Rattle.term_core.specs.declared.program.InputDecl.{InputDecl}
 use Rattle.core_rules.specs.declared.notes.Note.TheVariants as note
 use Rattle.core_rules.specs.declared.events.What.TheVariants as what
+use Rattle.value_core.proofs.Basics.{cond_is}
 
 -- ---- the pick is one of the eligible tickets
 
@@ -49,7 +50,7 @@ least_one P (k ∷ ks) n h e = (least_from k ks, least_from_one P k ks h.0 h.1, 
 pub pick_ready : (s : CoreState) (w n : ℕ) → picked s w ≡ Some n → ready s n ≡ true
 pick_ready s w n h =
     let test : Ticket → Bool = eligible (layout_of s.program) s.fair (ready s) (load s.jobs) s.now w in
-    elim (chosen {A = Option ℕ} (is_paused s.fair w || is_full (layout_of s.program) (load s.jobs) w) None (option_map (λ k. k.job) (least (filter test s.fair.tickets))) (Some n) h) [
+    elim (cond_is {A = Option ℕ} (is_paused s.fair w || is_full (layout_of s.program) (load s.jobs) w) None (option_map (λ k. k.job) (least (filter test s.fair.tickets))) (Some n) h) [
       | inl i ↦ let z : ⊥ = (let f = i.1 in cc) in absurd z
       | inr i ↦
           let k = least_one (λ k. test k ≡ true) (filter test s.fair.tickets) n (filter_passes test s.fair.tickets) i.1 in
@@ -58,7 +59,7 @@ pick_ready s w n h =
 
 -- ---- what a ready job is
 
-stage_ready : (g : Stage) → is_ready g ≡ true → g ≡ Ready
+pub stage_ready : (g : Stage) → is_ready g ≡ true → g ≡ Ready
 stage_ready Ready e = refl
 stage_ready Waiting e = let z : ⊥ = cc in absurd z
 stage_ready Running e = let z : ⊥ = cc in absurd z

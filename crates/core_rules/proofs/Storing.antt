@@ -30,10 +30,10 @@ use Rattle.core_rules.specs.Orders.{finish, finish_by, leave, picked, take_by, t
 use Rattle.core_rules.specs.Settling.{is_unmarked, live_on, wanted}
 use Rattle.core_rules.specs.Steps.{Accepted, at_time, change, step}
 use Rattle.core_rules.specs.Stored.{durable, named_values, printed_values, replaced, stored, with_delta, with_input, with_put, with_void}
-use Rattle.core_rules.proofs.Helpers.{bytes_same}
 use Rattle.core_rules.proofs.Moves.{accepts}
 use Rattle.core_rules.proofs.Settling.{same_settled}
 use Rattle.core_rules.proofs.Trying.{Holds, barred, either, idles, makes}
+use Rattle.value_core.proofs.Basics.{bytes_same}
 
 -- what an own change stores makes its inputs and rows
 pub record OwnStores (s : CoreState) (c : Change) : Type 0 where

@@ -14,7 +14,7 @@ barred P r c e = let z : ⊥ = cc in absurd z
 pub idles : (P : Change → Type 0) (n : Note) → Holds P (Idles n)
 idles P n c e = let z : ⊥ = cc in absurd z
 
-made : (x c : Change) → Makes x ≡ Makes c → x ≡ c
+pub made : (x c : Change) → Makes x ≡ Makes c → x ≡ c
 made x c e = cc
 
 pub makes : (P : Change → Type 0) (x : Change) → P x → Holds P (Makes x)

@@ -100,7 +100,7 @@ no_length : (es : List (RowKey × Row)) → length es ≡ 0 → es ≡ []
 no_length [] h = refl
 no_length (e ∷ es) h = absurd (omega (arith, h))
 
-none_listed : entries (empty {X = Row} {R = row_key_cmp}) ≡ []
+pub none_listed : entries (empty {X = Row} {R = row_key_cmp}) ≡ []
 none_listed = no_length (entries empty) (sym (len-entries empty) ∙ len-empty row_key_cmp Row)
 
 -- before the first job

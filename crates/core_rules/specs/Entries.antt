@@ -1,9 +1,10 @@
 -- What each triple is found to be in a state, and what the nodes come to by it.
-use Rattle.std.specs.Prelude.{ℕ, ◌+◌, ◌||◌, if◌then◌else◌, List, [], ◌∷◌, ◌++◌, map, Option, Some, None, filter}
+use Rattle.std.specs.Prelude.{ℕ, ◌+◌, ◌||◌, if◌then◌else◌, List, [], ◌∷◌, ◌++◌, map, Option, Some, None, filter, option_map}
 use Rattle.std.specs.List.{find}
 use Rattle.std.specs.Option.{option_and_then}
 use Rattle.std.specs.Str.{bytes_eq}
 use Rattle.std.specs.FinMap.{get, entries}
+use Rattle.value_core.specs.declared.state.Stage.{Stage}
 use Rattle.value_core.specs.declared.state.State.{State}
 use Rattle.value_core.specs.declared.state.Triple.{Triple}
 use Rattle.op_keys.specs.declared.declarations.OpDecl.{OpDecl}
@@ -25,6 +26,10 @@ use Rattle.core_rules.specs.Core.{CoreState, op_of, op_name, expiry_of, is_latch
 -- the live job of a triple
 abbrev pub job_of : List Job → Triple → Option Job
 job_of js t = find (λ j. same_triple j.triple t) js
+
+-- the stage of the live job of a triple
+abbrev pub stage_in : CoreState → Triple → Option Stage
+stage_in s t = option_map (stage s) (job_of s.jobs t)
 
 -- the row of an operation and a key
 abbrev pub row_at : Rows → Option OpDecl → List ℕ → Option Row

@@ -21,7 +21,7 @@ use Rattle.core_rules.specs.declared.notes.Note.TheVariants as note
 use Rattle.core_rules.specs.Bounds.{AreTicketsOwn, IsBounded}
 use Rattle.core_rules.specs.Core.{CoreState, op_of, goes_on, may_start, stage, is_queued, job_numbered}
 use Rattle.core_rules.specs.Entries.{entry_in, world, states, wants, refs}
-use Rattle.core_rules.specs.Openings.{Durable, IsOpenable, start}
+use Rattle.core_rules.specs.Openings.{Durable, IsDurable, IsOpenable, start}
 use Rattle.core_rules.specs.Orders.{load, order_for, picked}
 use Rattle.core_rules.specs.Replays.{Leads, Replays}
 use Rattle.core_rules.specs.declared.done.Done.{Done}
@@ -84,32 +84,50 @@ pub record IsReferred (s : CoreState) (j : Job) : Type 0 where
   pub queued : is_some j.worker ≡ false → 0 < refs s j.triple
   pub running : is_some j.worker ≡ true → refs s j.triple ≡ 0 → goes_on (op_of s j.triple.op) ≡ false → is_unmarked j.mark ≡ false
 
--- all of these, and the bounds of numbers and lists
-pub record Invariant (s : CoreState) : Type 0 where
+-- all of these, and each ticket is that of its job
+pub record IsLawful (s : CoreState) : Type 0 where
   pub one_each : OneEach s.jobs
   pub within : WithinCapacity s.program s.jobs
   pub numbered : Numbered s.now s.next s.rows s.jobs
   pub ticketed : Ticketed s
   pub tickets_own : AreTicketsOwn s.program s.jobs s.fair.tickets
   pub referred : AllByRecursion (IsReferred s) s.jobs
+
+-- that, and the bounds of numbers and lists
+pub record Invariant (s : CoreState) : Type 0 where
+  pub lawful : IsLawful s
   pub bounded : IsBounded s
 
--- an opening gives a state that meets them, for a program within the limits and what may be opened
+-- an opening gives a lawful state for any program, where each stored row's job is below the next number
+abbrev pub LawfulAtOpening : Type 0
+LawfulAtOpening = (program : Program) (durable : Durable) (threshold : Option Level) (reading : ℕ) (s : CoreState) →
+    IsDurable durable → start program durable threshold reading ≡ Some s → IsLawful s
+
+-- an accepted event keeps a state lawful
+abbrev pub LawfulThroughSteps : Type 0
+LawfulThroughSteps = (s : CoreState) (e : Event) (s' : CoreState) (r : Done) → step s e ≡ Accepted s' r → IsLawful s → IsLawful s'
+
+-- each state that is reached from such an opening is lawful
+abbrev pub LawfulAfterReplays : Type 0
+LawfulAfterReplays = (program : Program) (durable : Durable) (threshold : Option Level) (reading : ℕ) (s : CoreState) (es : List Logged) (t : CoreState) →
+    IsDurable durable → start program durable threshold reading ≡ Some s → Replays s es t → IsLawful t
+
+-- an opening gives a state that is within its bounds too, for a program within the limits and what may be opened
 abbrev pub InvariantAtOpening : Type 0
 InvariantAtOpening = (program : Program) (durable : Durable) (threshold : Option Level) (reading : ℕ) (s : CoreState) →
     IsWithinLimits program → IsOpenable durable → start program durable threshold reading ≡ Some s → Invariant s
 
--- an accepted event keeps them, the moment doesn't fall, and the version rises by one
+-- an accepted event keeps all of it, the moment doesn't fall, and the version rises by one
 abbrev pub InvariantThroughSteps : Type 0
 InvariantThroughSteps = (s : CoreState) (e : Event) (s' : CoreState) (r : Done) →
     step s e ≡ Accepted s' r → Invariant s → Invariant s' × (s.now ≤ s'.now) × (s'.version ≡ s.version + 1)
 
--- each state that is reached from such an opening meets them
+-- each state that is reached from such an opening keeps all of it
 abbrev pub InvariantAfterReplays : Type 0
 InvariantAfterReplays = (program : Program) (durable : Durable) (threshold : Option Level) (reading : ℕ) (s : CoreState) (es : List Logged) (t : CoreState) →
     IsWithinLimits program → IsOpenable durable → start program durable threshold reading ≡ Some s → Replays s es t → Invariant t
 
--- accepted events keep them, and each raises the version by one
+-- accepted events keep all of it, and each raises the version by one
 abbrev pub InvariantAlongEvents : Type 0
 InvariantAlongEvents = (s : CoreState) (es : List Event) (t : CoreState) → Leads s es t → Invariant s → Invariant t × (t.version ≡ s.version + length es)
 

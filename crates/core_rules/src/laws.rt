@@ -1,5 +1,5 @@
 //! Laws of the core. A law's function does nothing: its contract is the law.
-ghost use Rattle.core_rules.specs.Laws.{WorldIsEntries, SettlingKeepsStates, SettlingRefers, InvariantAtOpening, InvariantThroughSteps, InvariantAfterReplays, InvariantAlongEvents, StepsStoreDeltas, StartsArePicks, ChangesMakeStates, ReplaysAreOne};
+ghost use Rattle.core_rules.specs.Laws.{WorldIsEntries, SettlingKeepsStates, SettlingRefers, LawfulAtOpening, LawfulThroughSteps, LawfulAfterReplays, InvariantAtOpening, InvariantThroughSteps, InvariantAfterReplays, InvariantAlongEvents, StepsStoreDeltas, StartsArePicks, ChangesMakeStates, ReplaysAreOne};
 
 /// The world of a state has the state's entry for each triple.
 pub fn world_is_entries()
@@ -9,6 +9,21 @@ pub fn world_is_entries()
 /// Settling changes no wanted triple's entry, and so neither a node's state nor what is wanted.
 pub fn settling_keeps_states()
     ensures { SettlingKeepsStates }
+{}
+
+/// Each state that an opening gives is lawful, whatever the program's limits.
+pub fn lawful_at_opening()
+    ensures { LawfulAtOpening }
+{}
+
+/// Each accepted event keeps the state lawful.
+pub fn lawful_through_steps()
+    ensures { LawfulThroughSteps }
+{}
+
+/// Each state that an opening and a list of entries lead to is lawful.
+pub fn lawful_after_replays()
+    ensures { LawfulAfterReplays }
 {}
 
 /// Each state that an opening gives meets the invariant.

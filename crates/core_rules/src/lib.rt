@@ -22,8 +22,9 @@ pub use events::{Event, Refusal, What};
 pub use jobs::{Job, Mark};
 pub use laws::{
     changes_make_states, invariant_after_replays, invariant_along_events, invariant_at_opening,
-    invariant_through_steps, replays_are_one, settling_keeps_states, settling_refers,
-    starts_are_picks, steps_store_deltas, world_is_entries,
+    invariant_through_steps, lawful_after_replays, lawful_at_opening, lawful_through_steps,
+    replays_are_one, settling_keeps_states, settling_refers, starts_are_picks, steps_store_deltas,
+    world_is_entries,
 };
 pub use log::Logged;
 pub use lookups::{goes_on, is_latched, least_on, lesser, may_start, stage_under, when_allowed};

@@ -1,5 +1,5 @@
 -- How the ends follow the rows that are held.
-use Rattle.std.proofs.Common.{◌≡◌, ◌≢◌, ℕ, suc, ◌+◌, ◌-◌, ◌<◌, ◌≤◌, Bool, true, false, cond, nat_le, nat_lt, nat_eq, List, [], ◌∷◌, map, get_or, set, length, Option, Some, None, refl, sym, ap, subst, ◌∙◌, inl, inr, arith}
+use Rattle.std.proofs.Common.{◌≡◌, ◌≢◌, ℕ, suc, ◌+◌, ◌-◌, ◌<◌, ◌≤◌, true, false, cond, nat_le, nat_lt, nat_eq, List, [], ◌∷◌, map, get_or, set, length, Option, Some, None, refl, sym, ap, subst, ◌∙◌, inl, inr, arith}
 use Rattle.std.proofs.lemmas.Bool.{cases_Bool, cases_lt, cases_eq, cases_order, false≢true, eq-eqb, eqb-true, le-leb, lt-leb, lt-ltb, le-ltb}
 use Rattle.std.proofs.lemmas.List.Elements.{All-cons, All-nil}
 use Rattle.std.proofs.lemmas.Option.{none-some, same_Some, slice_get-get_or, slice_get_past}
@@ -16,6 +16,7 @@ use Rattle.sched_rows.specs.Holding.{IsIndexOf, end_at, end_of}
 use Rattle.sched_rows.proofs.KeyOrders.{end_cmp_tells, end_cmp_total}
 use Rattle.sched_rows.proofs.Lookups.{slice_get-insert_above, slice_get-insert_at, slice_get-insert_below, slice_get-remove_above, slice_get-remove_below, slice_get-set_other, slice_get-set_same}
 use Rattle.sched_rows.proofs.Members.{IsIn, any_found, any_in, map_found, map_in}
+use Rattle.value_core.proofs.Basics.{same_test}
 
 abbrev pub EndSet : Type 0
 EndSet = FinMap end_cmp (Unit {0})
@@ -43,11 +44,6 @@ is_end (Some s) t e = ap Some (eqb-true s t e)
 
 from_end : (o : Option ℕ) (t : ℕ) → o ≡ Some t → option_eq nat_eq o (Some t) ≡ true
 from_end o t e = ap (λ x. option_eq nat_eq x (Some t)) e ∙ eq-eqb t t refl
-
-same_test : (a b : Bool) → (a ≡ true → b ≡ true) → (b ≡ true → a ≡ true) → a ≡ b
-same_test true b f g = sym (f refl)
-same_test false true f g = g refl
-same_test false false f g = refl
 
 pub told : (hs : List Held) (ends : EndSet) (e : End) → IsIndexOf hs ends → Has ends e → end_at hs e.place ≡ Some e.time
 told hs ends e index has = is_end (end_at hs e.place) e.time (sym (index e.time e.place) ∙ has)

@@ -1,9 +1,9 @@
 -- When the rows at places run out, in order.
-use Rattle.std.specs.Prelude.{ℕ, ◌+◌, ◌-◌, Bool, ◌&&◌, nat_lt, nat_le, if◌then◌else◌, T, List, map, Option, Some, None, refl}
+use Rattle.std.specs.Prelude.{ℕ, ◌+◌, ◌-◌, Bool, ◌&&◌, nat_lt, nat_le, if◌then◌else◌, T, List, filter, map, take_while, Option, Some, None, refl}
 use Rattle.std.specs.declared.cmp.Ordering.{Ordering}
 use Rattle.std.specs.Coded.{Coded, code_by, coded×, coded_ℕ}
 use base.Stored.{coded_unit}
-use Rattle.std.specs.FinMap.{FinMap, from_sorted, insert, is_sorted, remove}
+use Rattle.std.specs.FinMap.{FinMap, from_sorted, insert, is_sorted, keys, remove}
 use Rattle.std.specs.FinMap as map_of
 use Rattle.std.specs.Ordering.{nat_cmp, on, then_cmp}
 use Rattle.sched_rows.specs.declared.expiry_index.End.{End}
@@ -56,3 +56,11 @@ moved_down place e = record e { place = if nat_lt place e.place then e.place - 1
 -- whether an end is after one time and at another at the latest
 abbrev pub ends_within : ℕ → ℕ → End → Bool
 ends_within after upto e = nat_lt after e.time && nat_le e.time upto
+
+-- the places of the first ends, up to the last one at a time at the latest
+abbrev pub first_places : ℕ → List End → List ℕ
+first_places upto es = map (λ e. e.place) (take_while (λ e. nat_le e.time upto) es)
+
+-- the places of the ends after one time and at another at the latest
+abbrev pub places_within : ℕ → ℕ → FinMap end_cmp (Unit {0}) → List ℕ
+places_within after upto ends = map (λ e. e.place) (filter (ends_within after upto) (keys ends))

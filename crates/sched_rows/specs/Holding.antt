@@ -1,5 +1,5 @@
 -- Rows as they are held: a list in the order of their keys, and their ends.
-use Rattle.std.specs.Prelude.{◌≡◌, ℕ, T, nat_eq, List, map, Option, Some}
+use Rattle.std.specs.Prelude.{◌≡◌, ℕ, T, nat_eq, List, map, Option, Some, slice_index_or, slice_set}
 use Rattle.std.specs.FinMap.{FinMap, contains_key, is_sorted, from_sorted}
 use Rattle.std.specs.List.{All, slice_get}
 use Rattle.std.specs.Option.{option_and_then, option_eq}
@@ -60,3 +60,7 @@ expiries_of hs = from_sorted (map expiry_entry hs)
 -- a held row that is to be made anew
 abbrev pub marked_held : Held → Held
 marked_held h = record h { row = marked h.row }
+
+-- the row at a place is marked, and the others are as they were
+abbrev pub IsMarkedAt : ℕ → List Held → List Held → Type 0
+IsMarkedAt place old new = (d : Held) → new ≡ slice_set old place (marked_held (slice_index_or old place d))

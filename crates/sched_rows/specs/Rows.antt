@@ -1,5 +1,5 @@
 -- Rows as contracts see them: at most one for an operation's name and a key, each with the expiry that it was kept with.
-use Rattle.std.specs.Prelude.{◌≡◌, ℕ, Bool, true, false, ◌&&◌, nat_lt, nat_le, if◌then◌else◌, List, map, Option, Some, None, is_some, refl}
+use Rattle.std.specs.Prelude.{◌≡◌, ℕ, ◌≤◌, Bool, true, false, ◌&&◌, not, nat_lt, nat_le, if◌then◌else◌, List, map, Option, Some, None, is_some, refl}
 use Rattle.std.specs.Coded.{Coded, code_by, coded×, coded_ℕ, coded_list}
 use Rattle.std.specs.FinMap.{FinMap, entries, get, insert, remove}
 use Rattle.std.specs.FinMap as map_of
@@ -10,7 +10,7 @@ use Rattle.op_keys.specs.contracts.declarations.Expiry as expiry
 use Rattle.sched_rows.specs.declared.row.Row.{Row}
 use Rattle.sched_rows.specs.contracts.row.Row as row
 use Rattle.sched_rows.specs.RowKeys.{RowKey, key_of, row_key_cmp}
-use Rattle.sched_rows.specs.Validity.{IsInRange, IsTime, expires}
+use Rattle.sched_rows.specs.Validity.{IsInRange, IsTime, expires, valid}
 
 -- rows by what they stand under
 abbrev pub Rows : Type 0
@@ -77,6 +77,11 @@ end_under row expiry = if row.rebuild then None else expires expiry row.finished
 abbrev pub falls_within : ℕ → ℕ → Option ℕ → Bool
 falls_within after upto None = false
 falls_within after upto (Some t) = nat_lt after t && nat_le t upto
+
+-- a row is valid at a time just if it was at an earlier one and doesn't expire in between
+abbrev pub ValidityEnds : Type 0
+ValidityEnds = (expiry : Expiry) (row : Row) (earlier later : ℕ) → earlier ≤ later →
+    valid expiry later row ≡ (valid expiry earlier row && not (falls_within earlier later (end_under row expiry)))
 
 -- whether a row without mark runs out after one time and at another at the latest
 abbrev pub is_due : Kept → ℕ → ℕ → RowKey × Row → Bool

@@ -2,14 +2,14 @@
 ghost use Rattle.std.specs.Prelude.{◌≡◌, ◌≢◌, ◌+◌, ◌-◌, ◌^◌, ◌<◌, ◌≤◌, All, length, map, filter, take_while, IfOk, MatchResult, OnOk, nat_le, nat_lt, if◌then◌else◌};
 ghost use Rattle.std.specs.FinMap.{empty, insert, keys, remove};
 ghost use Rattle.std.specs.List.Sorted.{IsNonDecreasing, IsPartitionPoint, IsPermutation};
-ghost use Rattle.sched_rows.specs.Ends.{IsRising, end_cmp, ends_within, moved_down, moved_up};
-ghost use Rattle.sched_rows.specs.Ordered.{IsGapFor, IsPlaceOf};
+ghost use Rattle.sched_rows.specs.Ends.{IsRising, end_cmp, first_places, moved_down, moved_up, places_within};
+ghost use Rattle.sched_rows.specs.Ordered.{Finds};
 
 use std::alloc::Global;
 use std::marker::Model;
 use value_core::NoMemory;
 
-/// When the row at a place runs out.
+/// When the row at a place expires.
 #[derive(Clone, Copy, Debug, PartialEq, Eq, PartialOrd, Ord)]
 pub(crate) struct End {
     pub(crate) time: u64,
@@ -36,10 +36,10 @@ impl Model for ExpiryIndex {
     ghost invariant = { λ i. IsRising i.ends.items };
 }
 
-/// Where an end stands, or where one would.
+/// The index of an end, or the one at which it would go in.
 fn search(ends: &[End], end: &End) -> Result<usize, usize>
     requires { IsRising ends.now }
-    ensures { MatchResult result (IsPlaceOf (λ e. e) end.now ends.now) (IsGapFor end_cmp (λ e. e) end.now ends.now) }
+    ensures { Finds end_cmp (λ e. e) end.now ends.now result }
 {
     ends.binary_search(end)
 }
@@ -80,7 +80,7 @@ fn move_down(ends: &mut [End], from: usize)
 
 /// The places of the first ends, at a time at the latest.
 fn places_upto(alloc: Global, ends: &[End], upto: u64) -> Result<Vec<usize>, NoMemory>
-    ensures { IfOk result (λ ps. ps.items ≡ map (λ e. e.place) (take_while (λ e. nat_le e.time upto) ends.now)) }
+    ensures { IfOk result (λ ps. ps.items ≡ first_places upto ends.now) }
 {
     ends.iter()
         .take_while(|end| end.time <= upto)
@@ -161,7 +161,7 @@ impl ExpiryIndex {
         upto: u64,
     ) -> Result<Vec<usize>, NoMemory>
         ensures rising { IfOk result (λ ps. IsNonDecreasing ps.items) }
-        ensures within { IfOk result (λ ps. IsPermutation (map (λ e. e.place) (filter (ends_within after upto) (keys self.now.set))) ps.items) }
+        ensures within { IfOk result (λ ps. IsPermutation (places_within after upto self.now.set) ps.items) }
     {
         let ends = self.ends.as_slice();
         let start = count_upto(ends, after);

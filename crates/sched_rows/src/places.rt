@@ -3,8 +3,8 @@ ghost use Rattle.std.specs.Prelude.{◌≡◌, ◌+◌, ◌<◌, ◌≤◌, All,
 ghost use Rattle.std.specs.Vec.{vec_capacity};
 ghost use Rattle.sched_rows.specs.declared.holding.Held.{Held};
 ghost use Rattle.sched_rows.specs.Ends.{with_end, without_end};
-ghost use Rattle.sched_rows.specs.Holding.{IsHeldInRange, IsIndexOf, IsOrdered, held_key, marked_held};
-ghost use Rattle.sched_rows.specs.Ordered.{IsGapFor, IsPlaceOf};
+ghost use Rattle.sched_rows.specs.Holding.{IsHeldInRange, IsIndexOf, IsMarkedAt, IsOrdered, held_key};
+ghost use Rattle.sched_rows.specs.Ordered.{Finds};
 ghost use Rattle.sched_rows.specs.RowKeys.{key_of, row_key, row_key_cmp};
 ghost use Rattle.sched_rows.specs.Rows.{end_under};
 ghost use Rattle.sched_rows.specs.Validity.{IsInRange, IsTime};
@@ -64,7 +64,7 @@ fn remove_end(index: &mut ExpiryIndex, end: Option<u64>, place: usize)
 /// Where the row of a name and key stands, or where one would.
 pub(crate) fn search(held: &[Held], op: &Text, key: &Text) -> Result<usize, usize>
     requires { IsOrdered held.now }
-    ensures { MatchResult result (IsPlaceOf held_key (row_key op.now key.now) held.now) (IsGapFor row_key_cmp held_key (row_key op.now key.now) held.now) }
+    ensures { Finds row_key_cmp held_key (row_key op.now key.now) held.now result }
 {
     held.binary_search_by(|h| key_order(&h.row, op, key))
 }
@@ -136,7 +136,7 @@ pub(crate) fn mark_at(held: &mut Vec<Held>, index: &mut ExpiryIndex, place: usiz
     requires within { place < vec_len held.old }
     requires range { All IsHeldInRange held.old.items }
     requires indexed { IsIndexOf held.old.items index.old.set }
-    ensures items { (d : Held) → held.new.items ≡ slice_set held.old.items place (marked_held (slice_index_or held.old.items place d)) }
+    ensures items { IsMarkedAt place held.old.items held.new.items }
     ensures indexed { IsIndexOf held.new.items index.new.set }
     ensures len { vec_len held.new ≡ vec_len held.old }
     ensures capacity { vec_capacity held.new ≡ vec_capacity held.old }

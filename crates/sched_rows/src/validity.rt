@@ -1,8 +1,6 @@
 //! Until when a row is valid.
-ghost use Rattle.std.specs.Prelude.{◌≡◌, ℕ, ◌≤◌, ◌&&◌, not};
-ghost use Rattle.op_keys.specs.declared.declarations.Expiry.{Expiry};
-ghost use Rattle.sched_rows.specs.declared.row.Row.{Row};
-ghost use Rattle.sched_rows.specs.Rows.{end_under, falls_within};
+ghost use Rattle.std.specs.Prelude.{◌≡◌};
+ghost use Rattle.sched_rows.specs.Rows.{ValidityEnds};
 ghost use Rattle.sched_rows.specs.Validity.{IsInRange, IsTime, expires, valid};
 
 use crate::row::Row;
@@ -42,8 +40,8 @@ pub fn valid(row: &Row, expiry: &Expiry, now: u64) -> bool
     }
 }
 
-/// A row that is valid at one time is so at a later one unless it runs out after the first and at
+/// A row that is valid at one time is so at a later one unless it expires after the first and at
 /// the later one at the latest; one that isn't valid stays so.
 pub fn validity_law()
-    ensures { (expiry : Expiry) (row : Row) (earlier later : ℕ) → earlier ≤ later → valid expiry later row ≡ (valid expiry earlier row && not (falls_within earlier later (end_under row expiry))) }
+    ensures { ValidityEnds }
 {}

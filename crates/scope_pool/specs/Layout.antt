@@ -1,7 +1,8 @@
 -- How a pool lays out its scopes and slots. No public clause cites this module.
-use Rattle.std.specs.Prelude.{◌≡◌, ℕ, suc, ◌+◌, ◌<◌, Bool, true, false, ◌==◌, ◌||◌, List, [], ◌∷◌, ◌++◌, length, Option, Some, None, count_by, slice_index, slice_index_or, if◌then◌else◌}
+use Rattle.std.specs.Prelude.{◌≡◌, ℕ, suc, ◌+◌, ◌<◌, Bool, true, false, ◌==◌, ◌||◌, List, [], ◌∷◌, ◌++◌, length, map, Option, Some, None, count_by, slice_index, slice_index_or, slice_set, if◌then◌else◌}
 use Rattle.std.specs.FinMap.{FinMap, empty, insert}
 use Rattle.std.specs.List.{list_any}
+use Rattle.std.specs.Option.{option_map}
 use Rattle.std.specs.Ordering.{nat_cmp}
 use Rattle.scope_pool.specs.Region.{OpenScope, ScopedItem}
 use Rattle.scope_pool.specs.declared.scopes.Scope.{Scope}
@@ -36,6 +37,22 @@ module _ {T : Type 0} where
   abbrev pub held_in : Slot T → Option (ScopedItem T)
   held_in (Vacant _) = None
   held_in (Held scope item) = Some (record { scope = scope; item = item })
+
+  -- what each slot holds
+  abbrev pub holdings : List (Slot T) → List (Option (ScopedItem T))
+  holdings slots = map held_in slots
+
+  -- what the slot at a place holds
+  abbrev pub held_at : List (Slot T) → ℕ → Option (ScopedItem T)
+  held_at slots place = slice_index_or (holdings slots) place None
+
+  -- the item that it holds
+  abbrev pub item_at : List (Slot T) → ℕ → Option T
+  item_at slots place = option_map (λ x. x.item) (held_at slots place)
+
+  -- at each place both hold the same
+  abbrev pub HoldSame : List (Slot T) → List (Slot T) → Type 0
+  HoldSame old new = (place : ℕ) → held_at new place ≡ held_at old place
 
   -- whether a slot holds an item
   abbrev pub is_held : Slot T → Bool
@@ -78,3 +95,20 @@ module _ {A : Type 0} where
   abbrev pub left_by : (ℕ → Bool) → Option (ScopedItem A) → Option (ScopedItem A)
   left_by gone None = None
   left_by gone (Some x) = if gone x.scope then None else Some x
+
+module _ {T : Type 0} where
+  -- a slot is filled, and the others hold what they held
+  abbrev pub IsFilled : ℕ → ScopedItem T → List (Slot T) → List (Slot T) → Type 0
+  IsFilled place x old new = holdings new ≡ slice_set (holdings old) place (Some x)
+
+  -- a slot holds another item in the same scope, and the others hold what they held
+  abbrev pub IsExchanged : ℕ → T → List (Slot T) → List (Slot T) → Type 0
+  IsExchanged place item old new = holdings new ≡ slice_set (holdings old) place (option_map (with_item item) (held_at old place))
+
+  -- the slots of some scopes are vacated
+  abbrev pub IsVacated : List ℕ → List (Slot T) → List (Slot T) → Type 0
+  IsVacated closing old new = holdings new ≡ map (left_by (among closing)) (holdings old)
+
+  -- a slot is vacated if it is of one of some scopes, and the others hold what they held
+  abbrev pub IsVacatedAt : ℕ → List ℕ → List (Slot T) → List (Slot T) → Type 0
+  IsVacatedAt i closing old new = holdings new ≡ slice_set (holdings old) i (left_by (among closing) (held_at old i))

@@ -1,7 +1,6 @@
 //! Slots for items, and the stack of those that are vacant.
-ghost use Rattle.std.specs.Prelude.{◌≡◌, ℕ, ◌+◌, ◌<◌, ◌≤◌, ◌^◌, true, if◌then◌else◌, List, count_by, length, map, slice_index_or, slice_set, IsSome, IsTrue, OnOk, Some, None, vec_capacity, vec_len};
-ghost use Rattle.std.specs.Option.{option_map};
-ghost use Rattle.scope_pool.specs.Layout.{among, held_in, is_held, left_by, slot_item, slot_with, with_item, IsLaidOut};
+ghost use Rattle.std.specs.Prelude.{◌≡◌, ℕ, ◌+◌, ◌<◌, ◌≤◌, ◌^◌, true, if◌then◌else◌, List, length, IsSome, IsTrue, OnOk, Some, None, vec_capacity, vec_len};
+ghost use Rattle.scope_pool.specs.Layout.{among, held_at, held_in, is_held, item_at, left_by, slot_item, slot_with, HoldSame, IsExchanged, IsFilled, IsLaidOut, IsVacated, IsVacatedAt};
 
 use std::alloc::AllocError;
 use std::mem;
@@ -42,7 +41,7 @@ pub(crate) fn reserve_slots<T>(
     requires few { vec_len slots.old ≤ 2 ^ 32 }
     requires room_to_vacate { vec_len slots.old ≤ vec_capacity vacant.old }
     ensures laid_out { IsLaidOut slots.new.items vacant.new.items }
-    ensures places { (place : ℕ) → slice_index_or (map held_in slots.new.items) place None ≡ slice_index_or (map held_in slots.old.items) place None }
+    ensures places { HoldSame slots.old.items slots.new.items }
     ensures few { vec_len slots.new ≤ 2 ^ 32 }
     ensures room_to_vacate { vec_len slots.new ≤ vec_capacity vacant.new }
     ensures vacant { vec_len vacant.old ≤ vec_len vacant.new }
@@ -65,7 +64,7 @@ fn add_vacant<T>(slots: &mut Vec<Slot<T>>, vacant: &mut Vec<u32>, more: usize)
     requires room { vec_len slots.old + more ≤ vec_capacity slots.old }
     requires room_to_vacate { vec_len vacant.old + more ≤ vec_capacity vacant.old }
     ensures laid_out { IsLaidOut slots.new.items vacant.new.items }
-    ensures places { (place : ℕ) → slice_index_or (map held_in slots.new.items) place None ≡ slice_index_or (map held_in slots.old.items) place None }
+    ensures places { HoldSame slots.old.items slots.new.items }
     ensures len { vec_len slots.new ≡ vec_len slots.old + more }
     ensures vacant { vec_len vacant.new ≡ vec_len vacant.old + more }
     ensures capacity { vec_capacity slots.new ≡ vec_capacity slots.old }
@@ -83,7 +82,7 @@ fn add_slot<T>(slots: &mut Vec<Slot<T>>, vacant: &mut Vec<u32>)
     requires room { vec_len slots.old < vec_capacity slots.old }
     requires room_to_vacate { vec_len vacant.old < vec_capacity vacant.old }
     ensures laid_out { IsLaidOut slots.new.items vacant.new.items }
-    ensures places { (place : ℕ) → slice_index_or (map held_in slots.new.items) place None ≡ slice_index_or (map held_in slots.old.items) place None }
+    ensures places { HoldSame slots.old.items slots.new.items }
     ensures len { vec_len slots.new ≡ vec_len slots.old + 1 }
     ensures vacant { vec_len vacant.new ≡ vec_len vacant.old + 1 }
     ensures capacity { vec_capacity slots.new ≡ vec_capacity slots.old }
@@ -104,9 +103,9 @@ pub(crate) fn fill<T: Drop>(
     requires laid_out { IsLaidOut slots.old.items vacant.old.items }
     requires some { 0 < vec_len vacant.old }
     ensures laid_out { IsLaidOut slots.new.items vacant.new.items }
-    ensures was_vacant { slice_index_or (map held_in slots.old.items) result None ≡ None }
+    ensures was_vacant { held_at slots.old.items result ≡ None }
     ensures within { result < vec_len slots.old }
-    ensures filled { map held_in slots.new.items ≡ slice_set (map held_in slots.old.items) result (Some (record { scope = scope; item = item })) }
+    ensures filled { IsFilled result (record { scope = scope; item = item }) slots.old.items slots.new.items }
     ensures len { vec_len slots.new ≡ vec_len slots.old }
     ensures vacant { vec_len vacant.new + 1 ≡ vec_len vacant.old }
     ensures capacity { vec_capacity vacant.new ≡ vec_capacity vacant.old }
@@ -121,9 +120,9 @@ pub(crate) fn fill<T: Drop>(
 
 /// Puts another item into a slot that is held.
 pub(crate) fn exchange<T>(slots: &mut Vec<Slot<T>>, place: u32, item: T) -> T
-    requires { IsSome (slice_index_or (map held_in slots.old.items) place None) }
-    ensures old { option_map (λ x. x.item) (slice_index_or (map held_in slots.old.items) place None) ≡ Some result }
-    ensures new { map held_in slots.new.items ≡ slice_set (map held_in slots.old.items) place (option_map (with_item item) (slice_index_or (map held_in slots.old.items) place None)) }
+    requires { IsSome (held_at slots.old.items place) }
+    ensures old { item_at slots.old.items place ≡ Some result }
+    ensures new { IsExchanged place item slots.old.items slots.new.items }
     ensures laid_out { (vacant : List ℕ) → IsLaidOut slots.old.items vacant → IsLaidOut slots.new.items vacant }
     ensures len { vec_len slots.new ≡ vec_len slots.old }
 {
@@ -133,8 +132,8 @@ pub(crate) fn exchange<T>(slots: &mut Vec<Slot<T>>, place: u32, item: T) -> T
 
 /// The item of a slot that is held.
 pub(crate) fn item_in<T>(slots: &[Slot<T>], place: u32) -> &T
-    requires { IsSome (slice_index_or (map held_in slots.now) place None) }
-    ensures { option_map (λ x. x.item) (slice_index_or (map held_in slots.now) place None) ≡ Some result.now }
+    requires { IsSome (held_at slots.now place) }
+    ensures { item_at slots.now place ≡ Some result.now }
 {
     match &slots[place as usize] {
         Slot::Held { scope: _, item } => item,
@@ -148,7 +147,7 @@ pub(crate) fn vacate<T: Drop>(slots: &mut Vec<Slot<T>>, vacant: &mut Vec<u32>, c
     requires few { vec_len slots.old ≤ 2 ^ 32 }
     requires room { vec_len slots.old ≤ vec_capacity vacant.old }
     ensures laid_out { IsLaidOut slots.new.items vacant.new.items }
-    ensures left { map held_in slots.new.items ≡ map (left_by (among closing.now)) (map held_in slots.old.items) }
+    ensures left { IsVacated closing.now slots.old.items slots.new.items }
     ensures len { vec_len slots.new ≡ vec_len slots.old }
     ensures vacant { vec_len vacant.old ≤ vec_len vacant.new }
     ensures capacity { vec_capacity vacant.new ≡ vec_capacity vacant.old }
@@ -165,7 +164,7 @@ fn vacate_one<T: Drop>(slots: &mut Vec<Slot<T>>, vacant: &mut Vec<u32>, i: usize
     requires room { vec_len slots.old ≤ vec_capacity vacant.old }
     requires within { i < vec_len slots.old }
     ensures laid_out { IsLaidOut slots.new.items vacant.new.items }
-    ensures left { map held_in slots.new.items ≡ slice_set (map held_in slots.old.items) i (left_by (among closing.now) (slice_index_or (map held_in slots.old.items) i None)) }
+    ensures left { IsVacatedAt i closing.now slots.old.items slots.new.items }
     ensures len { vec_len slots.new ≡ vec_len slots.old }
     ensures vacant { vec_len vacant.old ≤ vec_len vacant.new }
     ensures capacity { vec_capacity vacant.new ≡ vec_capacity vacant.old }

@@ -18,8 +18,6 @@ mod names;
 mod program;
 mod reading;
 mod states;
-#[cfg(test)]
-mod tests;
 
 pub use context::{Binding, Context};
 pub use entries::{Entries, Entry};

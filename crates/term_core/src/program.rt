@@ -1,4 +1,4 @@
-//! What a pipeline file stands for.
+//! The program of a pipeline file, as data.
 use op_keys::{ClientDecl, OpDecl, PoolDecl, WorkerDecl};
 use sqlite_items::Boxed;
 use value_core::{Fun, ListOf, Text, Value};
