@@ -24,9 +24,10 @@ use Rattle.core_rules.proofs.Moves.{accepts}
 use Rattle.core_rules.proofs.Settling.{settled_fresh}
 use Rattle.engine_rules.specs.Proper.{IsProperCore, IsProperDurable, IsProperWhat}
 use Rattle.engine_rules.specs.Reached.{IsTripleWithin, IsWithinBounds}
-use Rattle.engine_rules.proofs.JobTriples.{of_jobs_at_opening, of_jobs_through_steps, opened_program, step_program}
+use Rattle.engine_rules.proofs.JobTriples.{of_jobs_at_opening, of_jobs_through_steps}
 use Rattle.engine_rules.proofs.KeptRows.{all_in_order, wants_are_declared}
 use Rattle.engine_rules.proofs.ProperStates.{proper_at_opening, proper_through_steps, world_short}
+use Rattle.core_rules.proofs.Programs.{opened_program, step_program}
 
 both_all : (p : Program) (ts : List Triple) → AllByRecursion (λ (t : Triple). t.op < length p.ops) ts → AllByRecursion (IsWantable p) ts → AllByRecursion (IsTripleWithin p) ts
 both_all p [] d f = tt

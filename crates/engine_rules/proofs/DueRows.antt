@@ -1,27 +1,22 @@
 -- A row that is found is among the entries, and what holds of it is found there.
 use Rattle.std.proofs.Common.{◌≡◌, ℕ, Bool, true, false, cond, ◌||◌, List, [], ◌∷◌, ◌++◌, map, Some, refl, ap, sym, ◌∙◌}
-use Rattle.std.proofs.lemmas.Bool.{and_parts, cond_both, or_left, or_right}
+use Rattle.std.proofs.lemmas.Bool.{cond_both, or_left, or_right}
 use Rattle.std.specs.Prelude.{filter}
 use Rattle.std.specs.List.{flat_map, list_any}
-use Rattle.std.specs.Ordering.{eq_by_cmp, is_eq}
-use Rattle.std.specs.Cmp.{Equal-is, tied_then}
-use Rattle.std.specs.FinMap.{get, entries, get-entries, nat_cmp-IsAntisymmetric, slice_cmp-IsAntisymmetric}
+use Rattle.std.specs.Ordering.{eq_by_cmp}
+use Rattle.std.specs.FinMap.{get, entries, get-entries}
 use Rattle.std.specs.FinMap.Entries.{find as find_entry}
 use Rattle.sched_rows.proofs.KeyOrders.{row_keys_tie}
 use Rattle.sched_rows.specs.RowKeys.{RowKey, row_key_cmp}
-use Rattle.value_core.specs.Orders.{bytes_cmp}
 use Rattle.sched_rows.specs.Rows.{Rows}
 use Rattle.sched_rows.specs.declared.row.Row.{Row}
-
-any_append : {X : Type 0} (p : X → Bool) (xs ys : List X) → list_any p (xs ++ ys) ≡ (list_any p xs || list_any p ys)
-any_append p [] ys = refl
-any_append p (x ∷ xs) ys = elim (p x) as (λ b. (b || list_any p (xs ++ ys)) ≡ ((b || list_any p xs) || list_any p ys)) [ true ↦ refl | false ↦ any_append p xs ys ]
+use Rattle.core_rules.proofs.Helpers.{any-append}
 
 flat_first : {X A : Type 0} (p : A → Bool) (f : X → List A) (x : X) (xs : List X) → list_any p (f x) ≡ true → list_any p (flat_map f (x ∷ xs)) ≡ true
-flat_first p f x xs e = any_append p (f x) (flat_map f xs) ∙ or_left (list_any p (f x)) (list_any p (flat_map f xs)) e
+flat_first p f x xs e = any-append p (f x) (flat_map f xs) ∙ or_left (list_any p (f x)) (list_any p (flat_map f xs)) e
 
 flat_later : {X A : Type 0} (p : A → Bool) (f : X → List A) (x : X) (xs : List X) → list_any p (flat_map f xs) ≡ true → list_any p (flat_map f (x ∷ xs)) ≡ true
-flat_later p f x xs e = any_append p (f x) (flat_map f xs) ∙ or_right (list_any p (f x)) (list_any p (flat_map f xs)) e
+flat_later p f x xs e = any-append p (f x) (flat_map f xs) ∙ or_right (list_any p (f x)) (list_any p (flat_map f xs)) e
 
 -- what is among the things of a key is among those of the keys of the entries that pass a test, if its entry does
 found_in_entries : {A : Type 0} (p : A → Bool) (f : List ℕ × List ℕ → List A) (test : RowKey × Row → Bool) (k : RowKey) (r : Row) (es : List (RowKey × Row)) →

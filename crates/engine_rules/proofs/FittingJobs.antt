@@ -1,5 +1,5 @@
 -- The orders of live jobs fit.
-use Rattle.std.proofs.Common.{◌≡◌, ℕ, true, false, cond, List, [], ◌∷◌, Option, Some, None, refl, ap, sym, ◌∙◌, subst}
+use Rattle.std.proofs.Common.{◌≡◌, ℕ, true, false, cond, List, [], ◌∷◌, Some, None, refl, ap, sym, ◌∙◌, subst}
 use Rattle.std.specs.Prelude.{◌==◌, ◌&&◌, if◌then◌else◌, length, nat_lt, not, slice_get}
 use Rattle.std.specs.List.{AllByRecursion, list_all}
 use Rattle.value_core.specs.declared.state.Triple.{Triple}

@@ -1,5 +1,5 @@
 -- What holds of all wanted triples holds of the triples of all live jobs.
-use Rattle.std.proofs.Common.{◌≡◌, ℕ, true, false, cond, List, [], ◌∷◌, map, Option, Some, None, is_some, refl, ap, sym, ◌∙◌, subst}
+use Rattle.std.proofs.Common.{◌≡◌, ℕ, true, false, List, [], ◌∷◌, map, Option, Some, None, is_some, refl, ap, sym, ◌∙◌, subst}
 use Rattle.std.proofs.lemmas.Bool.{cond_both}
 use Rattle.std.specs.Prelude.{◌==◌, filter, if◌then◌else◌, not}
 use Rattle.std.specs.List.{AllByRecursion}
@@ -20,8 +20,7 @@ use Rattle.core_rules.specs.Settling.{dropped, is_value, lost_marked, mark_lost,
 use Rattle.core_rules.specs.Steps.{Accepted, at_time, step}
 use Rattle.core_rules.proofs.Helpers.{all_filter, all_push}
 use Rattle.core_rules.proofs.Moves.{accepts}
-use Rattle.core_rules.proofs.Numbers.{frame_of}
-use Rattle.core_rules.proofs.Settling.{kept_by_creating_each, marked_triple, same_settled}
+use Rattle.core_rules.proofs.Settling.{kept_by_creating_each, marked_triple}
 use Rattle.engine_rules.specs.Edits.{edit_of}
 use Rattle.engine_rules.proofs.Edited.{change_made}
 
@@ -86,15 +85,3 @@ module _ (P : Triple → Type 0) where
       let made = change_made u e.what a.own a.changed in
       let own : OfJobs a.own.state.jobs = subst OfJobs (ap (λ c. c.state.jobs) made.1) (of_own u (edit_of u e.what).own before) in
       subst OfJobs (sym (ap (λ z. z.jobs) a.new)) (of_settled (wanted a.own.state) a.own.state a.after a.settled w own)
-
--- ---- the program of a state
-
-pub opened_program : (program : Program) (durable : Durable) (threshold : Option Level) (reading : ℕ) (s : CoreState) → start program durable threshold reading ≡ Some s → s.program ≡ program
-unfolding start
-opened_program program durable threshold reading s e = (same_settled (wanted (opened program durable threshold reading)) (opened program durable threshold reading) s e).program
-
-pub own_program : (s : CoreState) (e : Event) (s' : CoreState) (r : Done) (h : step s e ≡ Accepted s' r) → (accepts s e s' r h).own.state.program ≡ s.program
-own_program s e s' r h = let a = accepts s e s' r h in (frame_of (at_time s e.at) a.own.state a.moved).program
-
-pub step_program : (s : CoreState) (e : Event) (s' : CoreState) (r : Done) → step s e ≡ Accepted s' r → s'.program ≡ s.program
-step_program s e s' r h = let a = accepts s e s' r h in ap (λ z. z.program) a.new ∙ (same_settled (wanted a.own.state) a.own.state a.after a.settled).program ∙ own_program s e s' r h

@@ -21,12 +21,12 @@ use Rattle.core_rules.specs.Entries.{wants, world}
 use Rattle.core_rules.specs.Settling.{wanted}
 use Rattle.term_core.specs.Counts.{in_order, with_triple}
 use Rattle.value_core.specs.Orders.{triple_cmp}
-use Rattle.core_rules.proofs.Helpers.{chosen}
 use Rattle.core_rules.specs.declared.own.RowChange.{RowChange}
 use Rattle.core_rules.specs.declared.own.RowChange.TheVariants as row
 use Rattle.core_rules.specs.Own.{rows_made}
 use Rattle.engine_rules.specs.Touched.{KeptFor, expiry_named, kept_made}
 use Rattle.sched_rows.proofs.KeyOrders.{row_keys_tie}
+use Rattle.value_core.proofs.Basics.{cond_is}
 
 -- ---- expiries
 
@@ -44,14 +44,14 @@ kept_put p k at new h key r e = elim (eq_by_cmp row_key_cmp key at) as (λ b. eq
 
 kept_void : (p : Program) (k : Kept) (at : RowKey) → KeptFor p k → (key : RowKey) (r : Row) → get (remove k.rows at) key ≡ Some r →
     get (remove k.expiries at) key ≡ Some (expiry_named p key.op)
-kept_void p k at h key r e = get-remove row_key_cmp_total k.expiries at key ∙ (elim (chosen {A = Option Row} (eq_by_cmp row_key_cmp key at) None (get k.rows key) (Some r) (sym (get-remove row_key_cmp_total k.rows at key) ∙ e)) [
+kept_void p k at h key r e = get-remove row_key_cmp_total k.expiries at key ∙ (elim (cond_is {A = Option Row} (eq_by_cmp row_key_cmp key at) None (get k.rows key) (Some r) (sym (get-remove row_key_cmp_total k.rows at key) ∙ e)) [
   | inl i ↦ let z : ⊥ = (let f = i.1 in cc) in absurd z
   | inr i ↦ ap (λ b. cond b None (get k.expiries key)) i.0 ∙ h key r i.1
 ])
 
 kept_mark : (p : Program) (k : Kept) (at : RowKey) (o : Option Row) → get k.rows at ≡ o → KeptFor p k → (key : RowKey) (r : Row) → get (mark_found at o k.rows) key ≡ Some r → get k.expiries key ≡ Some (expiry_named p key.op)
 kept_mark p k at None is h key r e = h key r e
-kept_mark p k at (Some q) is h key r e = elim (chosen {A = Option Row} (eq_by_cmp row_key_cmp key at) (Some (marked q)) (get k.rows key) (Some r) (sym (get-insert row_key_cmp_total k.rows at (marked q) key) ∙ e)) [
+kept_mark p k at (Some q) is h key r e = elim (cond_is {A = Option Row} (eq_by_cmp row_key_cmp key at) (Some (marked q)) (get k.rows key) (Some r) (sym (get-insert row_key_cmp_total k.rows at (marked q) key) ∙ e)) [
   | inl i ↦ h key q (ap (get k.rows) (row_keys_tie key at i.0) ∙ is)
   | inr i ↦ h key r i.1
 ]

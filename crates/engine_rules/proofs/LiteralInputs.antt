@@ -1,5 +1,5 @@
 -- The declared values of inputs are proper.
-use Rattle.std.proofs.Common.{◌≡◌, ℕ, List, Bool, true, Option, Some, None}
+use Rattle.std.proofs.Common.{◌≡◌, ℕ, List, true, Option, Some, None}
 use Rattle.value_core.specs.declared.value.Outcome.{Outcome}
 use Rattle.value_core.specs.declared.value.Value.{Value, Value-F, out-Value}
 use Rattle.value_core.specs.Kinds.{literal_kind}

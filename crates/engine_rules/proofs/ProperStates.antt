@@ -48,7 +48,6 @@ use Rattle.core_rules.specs.Orders.{result_text}
 use Rattle.core_rules.specs.declared.done.Done.{Done}
 use Rattle.core_rules.specs.Settling.{wanted}
 use Rattle.core_rules.specs.Steps.{Accepted, at_time, step}
-use Rattle.core_rules.proofs.Helpers.{chosen}
 use Rattle.core_rules.proofs.Moves.{accepts}
 use Rattle.core_rules.proofs.Settling.{same_settled}
 use Rattle.core_rules.specs.declared.own.RowChange.{RowChange}
@@ -62,6 +61,7 @@ use Rattle.engine_rules.proofs.Edited.{change_made, own_untouched, unless_passes
 use Rattle.engine_rules.proofs.LiteralInputs.{declared_proper}
 use Rattle.engine_rules.proofs.TouchedTriples.{row_found}
 use Rattle.core_rules.specs.declared.events.Refusal.TheVariants as refusal
+use Rattle.value_core.proofs.Basics.{cond_is}
 
 -- ---- entries are short
 
@@ -162,11 +162,11 @@ PutShort c = Unit {0}
 
 rows_short : (c : RowChange) (rows : Rows) → PutShort c → AreRowsShort rows → AreRowsShort (rows_made c rows)
 rows_short row.None rows p h = h
-rows_short (row.Put q) rows p h = λ k r e. elim (chosen {A = Option Row} (eq_by_cmp row_key_cmp k (key_of q)) (Some q) (get rows k) (Some r) (sym (get-insert row_key_cmp_total rows (key_of q) q k) ∙ e)) [
+rows_short (row.Put q) rows p h = λ k r e. elim (cond_is {A = Option Row} (eq_by_cmp row_key_cmp k (key_of q)) (Some q) (get rows k) (Some r) (sym (get-insert row_key_cmp_total rows (key_of q) q k) ∙ e)) [
   | inl i ↦ let same : q ≡ r = (let f = i.1 in cc) in subst (λ (x : Row). length x.result ≤ 65536) same p
   | inr i ↦ h k r i.1
 ]
-rows_short (row.Void op key) rows p h = λ k r e. elim (chosen {A = Option Row} (eq_by_cmp row_key_cmp k (row_key op key)) None (get rows k) (Some r) (sym (get-remove row_key_cmp_total rows (row_key op key) k) ∙ e)) [
+rows_short (row.Void op key) rows p h = λ k r e. elim (cond_is {A = Option Row} (eq_by_cmp row_key_cmp k (row_key op key)) None (get rows k) (Some r) (sym (get-remove row_key_cmp_total rows (row_key op key) k) ∙ e)) [
   | inl i ↦ let z : ⊥ = (let f = i.1 in cc) in absurd z
   | inr i ↦ h k r i.1
 ]
@@ -174,7 +174,7 @@ rows_short (row.Mark op key) rows p h = marked_short (row_key op key) (get rows 
   where
     marked_short : (at : RowKey) (o : Option Row) → get rows at ≡ o → AreRowsShort (mark_found at o rows)
     marked_short at None is = h
-    marked_short at (Some q) is = λ k r e. elim (chosen {A = Option Row} (eq_by_cmp row_key_cmp k at) (Some (marked q)) (get rows k) (Some r) (sym (get-insert row_key_cmp_total rows at (marked q) k) ∙ e)) [
+    marked_short at (Some q) is = λ k r e. elim (cond_is {A = Option Row} (eq_by_cmp row_key_cmp k at) (Some (marked q)) (get rows k) (Some r) (sym (get-insert row_key_cmp_total rows at (marked q) k) ∙ e)) [
       | inl i ↦ let same : marked q ≡ r = (let f = i.1 in cc) in subst (λ (x : Row). length x.result ≤ 65536) same (h at q is)
       | inr i ↦ h k r i.1
     ]
@@ -229,7 +229,7 @@ proper_through_steps s e s' r h p k =
 
 stored_light : (es : List (List ℕ × Value)) (name : List ℕ) (v : Value) → AllByRecursion (λ (e : List ℕ × Value). IsLight e.1) es → stored_at es name ≡ Some v → IsLight v
 stored_light [] name v h e = let z : ⊥ = cc in absurd z
-stored_light (x ∷ es) name v h e = elim (chosen {A = Option Value} (bytes_eq x.0 name) (Some x.1) (stored_at es name) (Some v) e) [
+stored_light (x ∷ es) name v h e = elim (cond_is {A = Option Value} (bytes_eq x.0 name) (Some x.1) (stored_at es name) (Some v) e) [
   | inl i ↦ let same : x.1 ≡ v = (let f = i.1 in cc) in subst IsLight same h.0
   | inr i ↦ stored_light es name v h.1 i.1
 ]

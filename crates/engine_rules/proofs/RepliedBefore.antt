@@ -33,7 +33,6 @@ use Rattle.core_rules.specs.Settling.{is_unmarked, newly_marked, settle, wanted}
 use Rattle.term_core.specs.Counts.{is_wanted}
 use Rattle.core_rules.specs.Steps.{Refused, Idle, Accepted, at_time, idle_reply, reply_of, settled_answer, step}
 use Rattle.core_rules.proofs.Entries.{world_entry}
-use Rattle.core_rules.proofs.Helpers.{triple_same}
 use Rattle.core_rules.proofs.Invariant.{version_rises}
 use Rattle.core_rules.proofs.Moves.{accepts}
 use Rattle.core_rules.proofs.Settling.{agree_on, settle_for_keeps, settled_fresh, wanted_same}
@@ -43,6 +42,7 @@ use Rattle.engine_rules.specs.Answers.{IdlesBy, is_idle, opening_before, reply_b
 use Rattle.engine_rules.specs.Edits.{change_of, end_note, note_of, pick_job, start_note}
 use Rattle.engine_rules.specs.Tests.{answered, cancel_test, confirm_test, finish_test, input_test, rate_test, rebuild_test, runs, take_test, test_of, unless}
 use Rattle.engine_rules.proofs.Edited.{answers_by_tests, change_made, take_passes}
+use Rattle.value_core.proofs.Basics.{triple_same}
 
 -- ---- replies
 

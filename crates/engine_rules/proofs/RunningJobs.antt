@@ -1,25 +1,24 @@
 -- How events change how many jobs run.
 use Rattle.std.proofs.Common.{◌≡◌, ℕ, zero, suc, ◌+◌, ◌*◌, ◌<◌, ◌≤◌, Bool, true, false, cond, not, ◌||◌, inl, inr, List, [], ◌∷◌, ◌++◌, map, length, Option, Some, None, is_some, refl, ap, sym, ◌∙◌, subst, arith}
-use Rattle.std.proofs.lemmas.Bool.{cases_lt, cond_both, eq-eqb, eqb-true, leb-false, or_parts}
-use Rattle.std.specs.Prelude.{◌==◌, filter, if◌then◌else◌, option_map, slice_get}
+use Rattle.std.proofs.lemmas.Bool.{cases_lt, cond_both, eq-eqb, eqb-true}
+use Rattle.std.specs.Prelude.{◌==◌, filter, if◌then◌else◌, slice_get}
 use Rattle.std.specs.List.{AllByRecursion}
 use Rattle.value_core.specs.declared.state.Triple.{Triple}
 use Rattle.op_keys.specs.declared.declarations.WorkerDecl.{WorkerDecl}
 use Rattle.term_core.specs.Limits.{IsWithinLimits, IsWorkerWithin}
-use Rattle.fair_pool.specs.Fair.{is_full, is_paused, next_ticket, withdrawn}
+use Rattle.fair_pool.specs.Fair.{withdrawn}
 use Rattle.fair_pool.specs.Layouts.{capacity_of}
 use Rattle.core_rules.specs.declared.events.Event.{Event}
 use Rattle.core_rules.specs.declared.events.What.{What}
 use Rattle.core_rules.specs.declared.events.What.TheVariants as what
 use Rattle.core_rules.specs.declared.jobs.Job.{Job}
-use Rattle.core_rules.specs.Core.{CoreState, job_numbered, layout_of, with_job, without_job}
+use Rattle.core_rules.specs.Core.{CoreState, job_numbered, with_job, without_job}
 use Rattle.core_rules.specs.Laws.{Invariant, JobsAbove, Rising, WithinCapacity}
-use Rattle.core_rules.specs.Orders.{load, picked, ready, runs_at}
+use Rattle.core_rules.specs.Orders.{load, picked, runs_at}
 use Rattle.core_rules.specs.declared.done.Done.{Done}
-use Rattle.core_rules.specs.Settling.{dropped, is_lost, lost_marked, mark_lost, new_job, settle_for, stays, targets, wanted}
+use Rattle.core_rules.specs.Settling.{dropped, lost_marked, mark_lost, new_job, settle_for, stays, targets, wanted}
 use Rattle.term_core.specs.Counts.{is_wanted}
 use Rattle.core_rules.specs.Steps.{Accepted, at_time, step}
-use Rattle.core_rules.proofs.Helpers.{chosen}
 use Rattle.core_rules.proofs.Moves.{accepts}
 use Rattle.core_rules.proofs.Settling.{kept_by_creating}
 use Rattle.core_rules.proofs.Starts.{number_found}
@@ -31,7 +30,9 @@ use Rattle.core_rules.specs.Orders.{taken_by}
 use Rattle.core_rules.specs.Changes.{confirmed, user_marked}
 use Rattle.engine_rules.specs.Running.{RunsBy, running}
 use Rattle.engine_rules.proofs.Edited.{change_made, passed_may_own}
-use Rattle.engine_rules.proofs.TouchedTriples.{none_numbered}
+use Rattle.core_rules.proofs.Rising.{none_numbered}
+use Rattle.core_rules.proofs.Parts.{no_capacity}
+use Rattle.core_rules.proofs.Loads.{picked_free, marked_worker}
 
 -- one or none
 abbrev one_if : Bool → ℕ
@@ -55,9 +56,6 @@ running_map f (j ∷ js) k = λ i. one_if (is_some (k j i)) + running_map f js k
 running_push : (js : List Job) (n : ℕ) (t : Triple) → running (js ++ new_job n t ∷ []) ≡ running js
 running_push [] n t = refl
 running_push (j ∷ js) n t = ap (λ m. one_if (is_some j.worker) + m) (running_push js n t)
-
-marked_worker : (ws : List Triple) (s : CoreState) (j : Job) → (mark_lost ws s j).worker ≡ j.worker
-marked_worker ws s j = cond_both {A = Job} (is_lost ws s j) _ _ (λ k. k.worker ≡ j.worker) (λ _. refl) (λ _. refl)
 
 running_settled : (ws : List Triple) (s s' : CoreState) → settle_for ws s ≡ Some s' → running s'.jobs ≡ running s.jobs
 running_settled ws s s' e = kept_by_creating (λ z. running z.jobs ≡ running s.jobs) (λ z u _ _ p. running_push z.jobs z.next u ∙ p) (lost_marked ws (dropped ws s)) s' (targets ws s.jobs) e
@@ -179,17 +177,6 @@ capacity_small [] w h = omega arith
 capacity_small (x ∷ ws) zero h = h.0.capacity
 capacity_small (x ∷ ws) (suc w) h = capacity_small ws w h.1
 
-no_capacity : (ws : List WorkerDecl) (w : ℕ) → length ws ≤ w → capacity_of (slice_get ws w) ≡ 0
-no_capacity [] w l = refl
-no_capacity (x ∷ ws) zero l = absurd (omega arith)
-no_capacity (x ∷ ws) (suc w) l = no_capacity ws w (omega arith)
-
-picked_free : (s : CoreState) (w n : ℕ) → picked s w ≡ Some n → load s.jobs w < capacity_of (slice_get s.program.workers w)
-picked_free s w n h = elim (chosen {A = Option ℕ} (is_paused s.fair w || is_full (layout_of s.program) (load s.jobs) w) None (option_map (λ k. k.job) (next_ticket (layout_of s.program) s.fair (ready s) (load s.jobs) s.now w)) (Some n) h) [
-  | inl i ↦ let z : ⊥ = (let f = i.1 in cc) in absurd z
-  | inr i ↦ leb-false (capacity_of (slice_get s.program.workers w)) (load s.jobs w) (or_parts (is_paused s.fair w) (is_full (layout_of s.program) (load s.jobs) w) i.0).1
-]
-
 -- where a worker has a pick, fewer than 64 jobs run
 few_run : (s : CoreState) (w n : ℕ) → WithinCapacity s.program s.jobs → IsWithinLimits s.program → w < length s.program.workers → picked s w ≡ Some n → running s.jobs < 64
 few_run s w n within limits l p =
@@ -242,4 +229,4 @@ running_by_events s e s' r i limits h =
     let u : CoreState = at_time s e.at in
     let made = change_made u e.what a.own a.changed in
     let later : running s'.jobs ≡ running (own_made (edit_of u e.what).own u).jobs = ap (λ z. running z.jobs) a.new ∙ running_settled (wanted a.own.state) a.own.state a.after a.settled ∙ sym (ap (λ c. running c.state.jobs) made.1) in
-    subst (RunsBy e.what (running s.jobs)) (sym later) (by_event u e.what (running s.jobs) (running (own_made (edit_of u e.what).own u).jobs) (runs_by_own u (edit_of u e.what).own i.numbered.rising i.within limits (passed_may_own u e.what made.0)))
+    subst (RunsBy e.what (running s.jobs)) (sym later) (by_event u e.what (running s.jobs) (running (own_made (edit_of u e.what).own u).jobs) (runs_by_own u (edit_of u e.what).own i.lawful.numbered.rising i.lawful.within limits (passed_may_own u e.what made.0)))

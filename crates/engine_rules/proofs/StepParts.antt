@@ -37,13 +37,13 @@ use Rattle.engine_rules.specs.declared.tests.Tested.TheVariants as tested
 use Rattle.engine_rules.specs.Answers.{reply_before}
 use Rattle.engine_rules.specs.Edits.{IsOwnChange, MayOwn, cancelled_rows, change_of, edit_of, edited, inputs_made, left_row, left_rows, marks_of, pick_job, taken_rows}
 use Rattle.core_rules.specs.Own.{own_change, own_made, rows_made}
-use Rattle.engine_rules.specs.Found.{stage_at}
 use Rattle.engine_rules.specs.Laws.{joined, settled_parts}
 use Rattle.core_rules.specs.Own.{PutsInTime}
 use Rattle.engine_rules.specs.Openings.{opened_parts, opened_with}
 use Rattle.engine_rules.specs.Tests.{answered, cancel_test, confirm_test, finish_test, passed, rate_test, runs, take_test, test_of, tried, unless, worker_test}
 use Rattle.engine_rules.proofs.Edited.{answers_by_tests, own_over, own_untouched, pause_tried, rate_tried, tests_decide}
 use Rattle.engine_rules.proofs.RepliedBefore.{replies_before}
+use Rattle.core_rules.specs.Entries.{stage_in}
 
 -- ---- steps
 
@@ -146,8 +146,8 @@ may_alone s (own.Rate c rate) rows m = m
 pub own_alone : (s : CoreState) (o : Own) (rows : Rows) → (work_of (own_made o (core_of (work_of s) rows s.now)) ≡ work_of (own_made o s)) × (MayOwn s o → MayOwn (core_of (work_of s) rows s.now) o)
 own_alone s o rows = (ap work_of (own_over s o rows [] 0), may_alone s o rows)
 
-pub stages_by_work : (s u : CoreState) (t : Triple) → work_of s ≡ work_of u → stage_at s t ≡ stage_at u t
-stages_by_work s u t e = ap (λ w. stage_at (core_of w empty 0) t) e
+pub stages_by_work : (s u : CoreState) (t : Triple) → work_of s ≡ work_of u → stage_in s t ≡ stage_in u t
+stages_by_work s u t e = ap (λ w. stage_in (core_of w empty 0) t) e
 
 marks_alone : (s : CoreState) (o : Own) (rows : Rows) → marks_of (core_of (work_of s) rows s.now) o ≡ marks_of s o
 marks_alone s own.None rows = refl

@@ -1,6 +1,6 @@
 -- A wanted triple whose entry an event changes is among the touched ones.
 use Rattle.std.proofs.Common.{◌≡◌, ℕ, ◌≤◌, Bool, true, false, cond, not, ◌&&◌, ◌||◌, inl, inr, List, [], ◌∷◌, ◌++◌, map, Option, Some, None, T, is_some, refl, ap, sym, ◌∙◌, subst, arith}
-use Rattle.std.proofs.lemmas.Bool.{both_ways, eq-eqb, eqb-true, false_from_ne_true, ne_eqb, or_left, or_parts}
+use Rattle.std.proofs.lemmas.Bool.{both_ways, eq-eqb, eqb-true, false_from_ne_true, or_left, or_parts}
 use Rattle.std.specs.Prelude.{◌==◌, filter, if◌then◌else◌, slice_get}
 use Rattle.std.specs.FinMap.{entries, entries_sorted, get, get-entries, get-insert, get-remove, insert, remove}
 use Rattle.std.specs.FinMap.Entries.{below_all, find as find_entry, is_sorted}
@@ -36,7 +36,7 @@ use Rattle.core_rules.specs.Laws.{Invariant, JobsAbove, Rising}
 use Rattle.core_rules.specs.Settling.{wanted}
 use Rattle.term_core.specs.Counts.{is_wanted}
 use Rattle.core_rules.specs.Steps.{at_time}
-use Rattle.core_rules.proofs.Helpers.{any-append, bytes_same, chosen, then_some, triple_itself, triple_same}
+use Rattle.core_rules.proofs.Helpers.{any-append, then_some}
 use Rattle.core_rules.proofs.Entries.{world_entry}
 use Rattle.core_rules.proofs.Settling.{wanted_same}
 use Rattle.core_rules.proofs.Starts.{number_found}
@@ -59,6 +59,8 @@ use Rattle.sched_rows.proofs.KeyOrders.{row_keys_tie}
 use Rattle.engine_rules.proofs.Edited.{edited_over, over, passed_may_own}
 use Rattle.engine_rules.proofs.RepliedBefore.{agree_at}
 use Rattle.engine_rules.proofs.NamedIndexes.{declared_own, index_own}
+use Rattle.value_core.proofs.Basics.{cond_is, bytes_same, triple_same, same_triples}
+use Rattle.core_rules.proofs.Rising.{none_numbered}
 
 -- ---- a row and its triple
 
@@ -68,7 +70,7 @@ pub row_found : (s : CoreState) (t : Triple) (r : Row) (o : Option OpDecl) → o
 row_found s t r None is e = let z : ⊥ = cc in absurd z
 row_found s t r (Some d) is e =
     let x = then_some (with_value t.value) (get s.rows (row_key d.name t.key)) r e in
-    elim (chosen (bytes_eq x.0.value t.value) (Some x.0) None (Some r) x.2) [
+    elim (cond_is (bytes_eq x.0.value t.value) (Some x.0) None (Some r) x.2) [
       | inl h ↦
           let same : x.0 ≡ r = (let f = h.1 in cc) in
           (d, is, x.1 ∙ ap Some same, sym (ap (λ y. y.value) same) ∙ bytes_same x.0.value t.value h.0)
@@ -83,7 +85,7 @@ op_numbered s n d apart is = declared_own (λ x. x.name) s.program.ops n d apart
 triple_there : (s : CoreState) (t : Triple) (d : OpDecl) (r : Row) → OpsApart s.program → op_of s t.op ≡ Some d → r.value ≡ t.value → is_wanted (triple_under (op_named s d.name) t.key (Some r)) t ≡ true
 triple_there s t d r apart is v =
     ap (λ o. is_wanted (triple_under o t.key (Some r)) t) (op_numbered s t.op d apart is)
-    ∙ or_left (same_triple (record { op = t.op; key = t.key; value = r.value }) t) false (triple_itself (record { op = t.op; key = t.key; value = r.value }) t (λ i. record { op = t.op; key = t.key; value = v i }))
+    ∙ or_left (same_triple (record { op = t.op; key = t.key; value = r.value }) t) false (same_triples (record { op = t.op; key = t.key; value = r.value }) t (λ i. record { op = t.op; key = t.key; value = v i }))
 
 -- ---- 1. rows that run out
 
@@ -204,12 +206,6 @@ job_with n f (i ∷ js) j t k e h = elim (i.number == n) as (λ b. cond b (Some 
   | false ↦ λ e. ap (λ o. cond (same_triple i.triple t) (Some i) o) (job_with n f js j t k e h)
 ] e
 
-pub none_numbered : (n : ℕ) (js : List Job) → JobsAbove n js → without_job n js ≡ js
-none_numbered n [] h = refl
-none_numbered n (j ∷ js) h =
-    let other : (j.number == n) ≡ false = ne_eqb j.number n (λ e. absurd (omega (arith, h.0, e))) in
-    ap (λ b. cond (not b) (j ∷ without_job n js) (without_job n js)) other ∙ ap (λ ks. j ∷ ks) (none_numbered n js h.1)
-
 -- a job that goes changes the look-up of no other triple
 job_without : (n : ℕ) (js : List Job) (j : Job) (t : Triple) → Rising js → job_numbered js n ≡ Some j → same_triple j.triple t ≡ false → job_of (without_job n js) t ≡ job_of js t
 job_without n [] j t r e h = refl
@@ -323,7 +319,7 @@ changed_are_touched s e t inv apart passes w h =
     let d = edit_of u e.what in
     let parts = or_parts _ _ (sym (any-append (λ x. same_triple x t) (due_triples s u.now) (own_triples (wanted s) u d.own ++ changed_triples u d.row)) ∙ h) in
     let more = or_parts _ _ (sym (any-append (λ x. same_triple x t) (own_triples (wanted s) u d.own) (changed_triples u d.row)) ∙ parts.1) in
-    edit_keeps (wanted s) u d t apart inv.numbered.rising (passed_may_own u e.what passes) (wanted_same (wants s) t ∙ w) more.0 more.1
+    edit_keeps (wanted s) u d t apart inv.lawful.numbered.rising (passed_may_own u e.what passes) (wanted_same (wants s) t ∙ w) more.0 more.1
     ∙ time_keeps s u.now t apart (omega arith) parts.0
 
 pub differing_are_touched : (w : World) (s : CoreState) (e : Event) (t : Triple) → Invariant s → OpsApart s.program → test_of (at_time s e.at) e.what ≡ tested.Passes →

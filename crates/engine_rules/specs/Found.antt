@@ -12,7 +12,7 @@ use Rattle.sched_rows.specs.declared.row.Row.{Row}
 use Rattle.sched_rows.specs.RowKeys.{row_key}
 use Rattle.sched_rows.specs.Validity.{valid}
 use Rattle.core_rules.specs.Core.{CoreState, expiry_of, is_latched, may_start, op_of, stage, when_allowed}
-use Rattle.core_rules.specs.Entries.{job_of, outcome, row_at, with_value}
+use Rattle.core_rules.specs.Entries.{job_of, outcome, row_at, with_value, stage_in}
 use Rattle.core_rules.specs.declared.own.Own.{Own}
 use Rattle.core_rules.specs.declared.own.Own.TheVariants as own
 use Rattle.core_rules.specs.declared.own.RowChange.{RowChange}
@@ -25,13 +25,9 @@ found_entry threshold now d (Some g) None = entry.Active g
 found_entry threshold now d None (Some r) = if valid (expiry_of d) now r || is_latched d then outcome r else entry.Active (when_allowed (may_start threshold d))
 found_entry threshold now d None None = entry.Active (when_allowed (may_start threshold d))
 
--- the stage of the live job of a triple
-abbrev pub stage_at : CoreState → Triple → Option Stage
-stage_at s t = option_map (stage s) (job_of s.jobs t)
-
 -- the same after a change among the jobs
 abbrev pub stage_after : CoreState → Own → Triple → Option Stage
-stage_after s o t = stage_at (own_made o s) t
+stage_after s o t = stage_in (own_made o s) t
 
 -- the row of an operation's name and a key
 abbrev pub row_named : CoreState → List ℕ → List ℕ → Option Row

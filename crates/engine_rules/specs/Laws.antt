@@ -20,7 +20,7 @@ use Rattle.core_rules.specs.declared.events.What.{What}
 use Rattle.core_rules.specs.Bounds.{IsBounded}
 use Rattle.core_rules.specs.Changes.{Change, Makes}
 use Rattle.core_rules.specs.Core.{CoreState, op_of}
-use Rattle.core_rules.specs.Entries.{entry_in, states, wants, world}
+use Rattle.core_rules.specs.Entries.{entry_in, states, wants, world, stage_in}
 use Rattle.core_rules.specs.Laws.{Invariant}
 use Rattle.core_rules.specs.Openings.{Durable, IsDurable, opened, opening_reply, start}
 use Rattle.core_rules.specs.Parts.{Work, core_of, work_of}
@@ -38,7 +38,7 @@ use Rattle.engine_rules.specs.Answers.{IdlesBy, is_idle, opening_before, reply_b
 use Rattle.engine_rules.specs.Conflicts.{AreCounted, counted, doubled, not_among}
 use Rattle.engine_rules.specs.Edits.{IsOwnChange, MayOwn, change_of, marks_of, edit_of, edited, inputs_made}
 use Rattle.core_rules.specs.Own.{own_change, own_made, rows_made}
-use Rattle.engine_rules.specs.Found.{found_entry, row_after, stage_after, stage_at}
+use Rattle.engine_rules.specs.Found.{found_entry, row_after, stage_after}
 use Rattle.core_rules.specs.Own.{PutsInTime}
 use Rattle.engine_rules.specs.Openings.{opened_parts, opened_with}
 use Rattle.engine_rules.specs.Proper.{IsProperCore}
@@ -72,7 +72,7 @@ OwnAlone = (s : CoreState) (o : Own) (rows : Rows) →
 
 -- and the stages of triples depend on the jobs alone
 abbrev pub StagesByWork : Type 0
-StagesByWork = (s u : CoreState) (t : Triple) → work_of s ≡ work_of u → stage_at s t ≡ stage_at u t
+StagesByWork = (s u : CoreState) (t : Triple) → work_of s ≡ work_of u → stage_in s t ≡ stage_in u t
 
 -- and it is the one that the core's own function makes
 abbrev pub OwnIsChange : Type 0

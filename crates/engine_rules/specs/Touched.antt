@@ -90,10 +90,11 @@ own_triples ws s (own.Finish n) = triple_of_job (job_numbered s.jobs n)
 own_triples ws s (own.Take w) = triple_of_job (pick_job s w)
 own_triples ws s o = []
 
--- the same, by the wanted triples with their counts
+-- the wanted triples that a threshold moves, by these with their counts
 abbrev pub moved_of : Option Level → List (Triple × ℕ) → CoreState → List Triple
 moved_of threshold cs s = filter (is_moved threshold s) (triples_of cs)
 
+-- those of a change among the jobs, by the wanted triples with their counts
 abbrev pub own_of : List (Triple × ℕ) → CoreState → Own → List Triple
 own_of cs s o = own_triples (triples_of cs) s o
 
@@ -113,7 +114,6 @@ abbrev pub touched_by : List (Triple × ℕ) → List (List ℕ × List ℕ) →
 touched_by cs due d s = due_at s due ++ (own_of cs s d.own ++ changed_triples s d.row)
 
 -- by an event
-
 abbrev pub touched : List Triple → CoreState → Event → List Triple
 touched ws s e =
     let t : CoreState = at_time s e.at in

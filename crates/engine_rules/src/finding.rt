@@ -129,19 +129,26 @@ fn row_after<'a, P: Lookups>(
     }
 }
 
+/// The threshold and the moment by which entries are found.
+#[derive(Drop)]
+struct Moment {
+    threshold: Option<Level>,
+    at: u64,
+}
+
 /// What a triple of an operation is found to be, by the stage of its live job and its row.
 fn found_entry(
     alloc: Global,
-    threshold: Option<Level>,
-    now: u64,
+    moment: Moment,
     op: Option<&OpDecl>,
     stage: Option<Stage>,
     row: Option<MarkedRow<'_>>,
 ) -> Result<Entry, NoMemory>
     requires range { IfSome op (λ d. IsInRange d.now.expiry) }
     requires time { IfSome row (λ s. IsTime s.row.now.finished) }
-    ensures { Finds threshold now (option_copied op.entry) stage (row_if_seen row.entry) result }
+    ensures { Finds moment (option_copied op.entry) stage (row_if_seen row.entry) result }
 {
+    let Moment { threshold, at } = moment;
     match (stage, row) {
         (Some(stage), Some(seen)) => {
             if is_latched(op) {
@@ -152,7 +159,7 @@ fn found_entry(
         }
         (Some(stage), None) => Ok(Entry::Active(stage)),
         (None, Some(seen)) => {
-            if is_valid(op, &seen, now) || is_latched(op) {
+            if is_valid(op, &seen, at) || is_latched(op) {
                 outcome(alloc, seen.row)
             } else {
                 Ok(Entry::Active(when_allowed(may_start(threshold, op))))
@@ -186,10 +193,13 @@ pub fn entry_after<P: Lookups>(
     requires stage { stage ≡ stage_after (P.state parts.now) edit.now.own triple.now }
     ensures { IfOk result (λ e. e ≡ entry_in (edited edit.now (P.state parts.now)) triple.now) }
 {
+    let moment = Moment {
+        threshold: threshold_after(parts, &edit.own),
+        at: parts.now(),
+    };
     found_entry(
         alloc,
-        threshold_after(parts, &edit.own),
-        parts.now(),
+        moment,
         parts.op(triple.op),
         stage,
         row_after(parts, &edit.row, triple),

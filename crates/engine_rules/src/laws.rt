@@ -89,12 +89,12 @@ pub fn changed_inputs_are_set()
     ensures { ChangedInputsAreSet }
 {}
 
-/// What was evaluated before settling is what the settled state comes to.
+/// What was evaluated before settling is the evaluation of the settled state.
 pub fn agreement_lasts()
     ensures { AgreementLasts }
 {}
 
-/// The reply of a step is told by the state before it is settled, but for the next number.
+/// The reply of a step follows from the state before it is settled, but for the next number.
 pub fn replies_before()
     ensures { RepliesBefore }
 {}

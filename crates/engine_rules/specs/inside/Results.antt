@@ -3,13 +3,13 @@ use Rattle.std.specs.Prelude.{◌≡◌, ℕ, Bool, if◌then◌else◌, List, O
 use Rattle.std.specs.Option.{option_map}
 use Rattle.value_core.specs.declared.state.Stage.{Stage}
 use Rattle.op_keys.specs.declared.declarations.OpDecl.{OpDecl}
-use Rattle.op_keys.specs.declared.level.Level.{Level}
 use Rattle.term_core.specs.declared.entries.Entry.{Entry}
 use Rattle.sched_rows.specs.declared.row.Row.{Row}
 use Rattle.sched_rows.specs.Rows.{marked}
 use Rattle.engine_rules.specs.declared.exits.ExitResult.{ExitResult}
 use Rattle.engine_rules.specs.declared.exits.ExitResult.TheVariants.{Fine, Failed}
 use Rattle.engine_rules.specs.declared.finding.MarkedRow.{MarkedRow}
+use Rattle.engine_rules.specs.declared.finding.Moment.{Moment}
 use Rattle.engine_rules.specs.Found.{found_entry}
 
 -- Ok has this
@@ -38,5 +38,5 @@ abbrev pub bare_row : Option MarkedRow → Option Row
 bare_row = option_map (λ m. m.row.now)
 
 -- Ok has what a triple of an operation is found to be
-abbrev pub Finds : {E : Type 0} → Option Level → ℕ → Option OpDecl → Option Stage → Option Row → Result Entry E → Type 0
-Finds threshold now d stage row result = Returns (found_entry threshold now d stage row) result
+abbrev pub Finds : {E : Type 0} → Moment → Option OpDecl → Option Stage → Option Row → Result Entry E → Type 0
+Finds m d stage row result = Returns (found_entry m.threshold m.at d stage row) result
