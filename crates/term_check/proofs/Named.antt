@@ -7,7 +7,6 @@ use Rattle.std.specs.Str.{bytes_eq}
 use Rattle.std.proofs.lemmas.Bool.{and_parts, eq-eqb, ltb-true, ltb-false, or_cases, or_left, or_right}
 use Rattle.std.proofs.lemmas.Option.{slice_get_past}
 use Rattle.std.proofs.lemmas.List.{length-map}
-use Rattle.std.proofs.lemmas.Slice.Eq.{bytes_eq-Decides}
 use Rattle.std.proofs.Common.{◌⊎◌, inl, inr}
 use Rattle.value_core.specs.FunctionKinds.{kind_given}
 use Rattle.value_core.specs.declared.value.Kind.{Kind}
@@ -27,11 +26,9 @@ use Rattle.term_check.specs.Laws.{IsAtMost, Lists}
 use Rattle.term_check.specs.Reports.{greatest_level, is_input as means_input, is_op as means_op, higher, in_some_node, is_used_op, names_here, numbers_where, report_of, some_term}
 use Rattle.term_check.specs.declared.report.Role.{Role}
 use Rattle.term_check.specs.declared.report.Role.TheVariants as role
+use Rattle.value_core.proofs.Basics.{bytes_same}
 
 -- ---- names of declarations
-
-pub bytes_same : (m n : List ℕ) → bytes_eq m n ≡ true → m ≡ n
-bytes_same m n e = (bytes_eq-Decides m n).0 e
 
 -- whether some declaration has a name
 abbrev pub has_name : List (List ℕ) → List ℕ → Bool

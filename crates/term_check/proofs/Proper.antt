@@ -12,18 +12,18 @@ use Rattle.value_core.specs.FunctionKinds.{IsOfKind, kind_given}
 use Rattle.value_core.specs.Functions.{fn_value}
 use Rattle.value_core.specs.Parts.{items_in, items_layer, text_in}
 use Rattle.value_core.specs.Same.{same}
-use Rattle.value_core.specs.Values.{fits_kind, fits_step, layer_fits, outcome_fits, weight_of}
+use Rattle.value_core.specs.Values.{fits_kind, layer_fits, outcome_fits, weight_of}
 use Rattle.value_core.specs.declared.function.Applied.{Applied}
 use Rattle.value_core.specs.declared.function.Applied.TheVariants as applied
 use Rattle.value_core.specs.declared.function.Fun.{Fun}
 use Rattle.value_core.specs.declared.state.State.{State}
 use Rattle.value_core.specs.declared.state.State.TheVariants.{Fine, Failed, Active}
 use Rattle.value_core.specs.declared.state.Triple.{Triple}
-use Rattle.value_core.specs.declared.value.Kind.{Kind, Kind-F, out-Kind, roll-Kind, roll-out-Kind, map-Kind, fold-roll-Kind}
+use Rattle.value_core.specs.declared.value.Kind.{Kind, Kind-F, out-Kind, roll-Kind, roll-out-Kind, map-Kind}
 use Rattle.value_core.specs.declared.value.Kind.TheVariants as kind
 use Rattle.value_core.specs.declared.value.Outcome.{Outcome, Outcome-F, out-Outcome, out-roll-Outcome}
 use Rattle.value_core.specs.declared.value.Outcome.TheVariants as outcome
-use Rattle.value_core.specs.declared.value.Value.{Value, Value-F, out-Value, roll-Value, out-roll-Value}
+use Rattle.value_core.specs.declared.value.Value.{Value, Value-F, out-Value, roll-Value}
 use Rattle.value_core.specs.declared.value.Value.TheVariants as value
 use Rattle.value_core.proofs.KindLaws.{kept}
 use Rattle.value_core.proofs.Sames.{same_true}
@@ -48,14 +48,9 @@ use Rattle.term_check.specs.Bounds.{AreProperInputs, AreProperStates, HasShortEn
 use Rattle.term_check.specs.Laws.{SoundStatesHaveTheirKinds}
 use Rattle.term_check.proofs.Named.{behind, known_op}
 use Rattle.term_check.proofs.Small.{text_short, IsSmallApplied, bounded_at, bounded_out, layer_bounded, layer_weight, outcome_bounded_out, outcome_layer_bounded, outcome_layer_weight, outcome_weight_out, small_given, small_unit, small_words, weight_at, weight_out}
+use Rattle.value_core.proofs.Layers.{fits_layer, out_at}
 
 -- ---- values of kinds by their layers
-
-fits_layer : (l : Kind-F Kind) (k : Kind) → roll-Kind l ≡ k → (v : Value) → fits_kind k v ≡ layer_fits (map-Kind Kind (Value → Bool) fits_kind l) (out-Value v)
-fits_layer l k e v = ap (λ j. fits_kind j v) (sym e) ∙ ap (λ (f : Value → Bool). f v) (fold-roll-Kind (Value → Bool) fits_step l)
-
-out_at : (l : Value-F Outcome Value) (v : Value) → roll-Value l ≡ v → out-Value v ≡ l
-out_at l v e = ap out-Value (sym e) ∙ out-roll-Value l
 
 -- a value's layer fits a kind's
 abbrev Fits : Kind-F Kind → Value-F Outcome Value → Type 0

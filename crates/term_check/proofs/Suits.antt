@@ -13,6 +13,7 @@ use Rattle.term_check.specs.Functions.{layer_suits, suits}
 use Rattle.term_check.specs.Laws.{FunctionsTakeWhatTheyWant}
 use Rattle.term_check.specs.declared.wanted.Wanted.{Wanted, Wanted-F, roll-Wanted, map-Wanted, fold-roll-Wanted}
 use Rattle.term_check.specs.declared.wanted.Wanted.TheVariants as wanted
+use Rattle.value_core.proofs.Basics.{same_test}
 
 suits_layer : (x : Wanted-F Wanted) (w : Wanted) → roll-Wanted x ≡ w → (k : Kind) → suits w k ≡ layer_suits (map-Wanted Wanted (Kind → Bool) suits x) (out-Kind k)
 suits_layer x w e k = ap (λ (v : Wanted). suits v k) (sym e) ∙ ap (λ (f : Kind → Bool). f k) (fold-roll-Wanted (Kind → Bool) (λ v k. layer_suits v (out-Kind k)) x)
@@ -95,11 +96,6 @@ only_pair w j only k = (
       ∙ ap (layer_suits (Wanted-F.Pair (suits w) (suits w))) (out_at (Kind-F.Pair j j) (kind.Pair j j) (kind.rolls-Pair j j)) ∙ and_from (suits w j) (suits w j) ((only j).1 refl) ((only j).1 refl),
 )
 
-decided : (s t : Bool) → (s ≡ true → t ≡ true) → (t ≡ true → s ≡ true) → s ≡ t
-decided true t f g = sym (f refl)
-decided false true f g = g refl
-decided false false f g = refl
-
 some_given : (b : Bool) (j : Kind) → is_some (cond b (Some j) None) ≡ b
 some_given true j = refl
 some_given false j = refl
@@ -108,7 +104,7 @@ some_given false j = refl
 one_taken : (w : Wanted) (j to k : Kind) → ((k : Kind) → IsOnly w j k) → is_some (given_for j to k) ≡ suits w k
 one_taken w j to k only =
     some_given (same kind_code k j) to
-    ∙ decided (same kind_code k j) (suits w k) (λ e. (only k).1 (same_true kind_code k j e)) (λ e. ap (λ (x : Kind). same kind_code x j) ((only k).0 e) ∙ same_refl kind_code j)
+    ∙ same_test (same kind_code k j) (suits w k) (λ e. (only k).1 (same_true kind_code k j e)) (λ e. ap (λ (x : Kind). same kind_code x j) ((only k).0 e) ∙ same_refl kind_code j)
 
 -- a function that takes each list, pair or outcome
 counted_taken : (l : Kind-F Kind) → is_some (counted_kind l) ≡ layer_suits (Wanted-F.List (suits wanted.Any)) l

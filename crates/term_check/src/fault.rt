@@ -2,7 +2,7 @@
 use crate::wanted::Wanted;
 use value_core::{Kind, Text};
 
-/// Where a fault is. Each declaration is told by its number in its list.
+/// Where a fault is. A declaration is identified by its number in its list.
 #[derive(Clone, Copy, Debug, PartialEq, Eq)]
 pub enum FaultPlace {
     Client(u32),
@@ -25,7 +25,7 @@ pub enum CheckWhat {
     ListNesting,
     /// The term's kind has so many parts.
     KindTooLarge(u64),
-    /// Memory is wanting; the place says nothing.
+    /// Out of memory; the place says nothing.
     NoMemory,
 }
 

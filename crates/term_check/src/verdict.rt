@@ -20,7 +20,7 @@ const PARTS_LIMIT: u64 = 64;
 /// At most so many terms of a file stand in two list bodies.
 const DEEP_LIMIT: u32 = 64;
 
-/// Where a term stands.
+/// A term's position.
 #[derive(Clone, Copy, Debug, PartialEq, Eq)]
 pub(crate) struct Position {
     /// How many list bodies are round it.
@@ -49,7 +49,7 @@ pub(crate) enum Wrapping {
 }
 
 impl Position {
-    /// Whether a term stands too deep in lists here.
+    /// Whether a term is too deep in lists here.
     pub(crate) fn is_nested(self, is_list: bool) -> bool
         ensures { result ≡ is_nested is_list self }
     {
