@@ -32,6 +32,7 @@ use Rattle.current_cli.specs.declared.tasks.Task.{Task}
 use Rattle.current_cli.specs.declared.tasks.Task.TheVariants.{WrongWords, NoFile, Refused, Reported, Session}
 use Rattle.current_cli.specs.declared.words.Command.{Command}
 use Rattle.current_cli.specs.declared.words.Command.TheVariants.{Run, Check}
+use Rattle.value_core.proofs.Basics.{nat_lt_is, nat_lt_not, is_nat_lt}
 
 -- ---- a task of a content is the one that is computed
 
@@ -117,23 +118,14 @@ one_task request contents = record { task = task_for request contents; asked = i
 
 -- ---- the content that is held, and what was read of it
 
-is_less : (n m : ℕ) → nat_lt n m ≡ true → n < m
-is_less n m e = grind (arith, nat_tests)
-
-at_most : (n m : ℕ) → nat_lt n m ≡ false → m ≤ n
-at_most n m e = grind (arith, nat_tests)
-
-is_more : (n m : ℕ) → n < m → nat_lt n m ≡ true
-is_more n m e = grind (arith, nat_tests)
-
 few_or_many : (content : List ℕ) → (length content ≤ 1048576) ⊎ (1048576 < length content)
 few_or_many content =
     elim (nat_lt 1048576 (length content)) as (λ b. nat_lt 1048576 (length content) ≡ b → (length content ≤ 1048576) ⊎ (1048576 < length content))
-    [ true ↦ λ e. inr (is_less 1048576 (length content) e) | false ↦ λ e. inl (at_most 1048576 (length content) e) ] refl
+    [ true ↦ λ e. inr (nat_lt_is 1048576 (length content) e) | false ↦ λ e. inl (nat_lt_not 1048576 (length content) e) ] refl
 
 too_many : (bytes : List ℕ) → 1048576 < length bytes → pipeline_of bytes ≡ Err (fault.Limit limit.File 1048576 0)
 unfolding pipeline_of read_of
-too_many bytes many = rw (is_more 1048576 (length bytes) many) refl
+too_many bytes many = rw (is_nat_lt 1048576 (length bytes) many) refl
 
 same_read : (content : List ℕ) → pipeline_of (take (1048576 + 1) content) ≡ pipeline_of content
 same_read content =

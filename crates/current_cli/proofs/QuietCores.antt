@@ -1,9 +1,6 @@
 -- The core of a program that looks up nothing: nothing is wanted, settling changes nothing, and its states are a fresh evaluation.
-use Rattle.std.proofs.Common.{◌≡◌, ℕ, List, [], ◌∷◌, length, map, Some, refl, sym, ap, ◌∙◌, arith}
+use Rattle.std.proofs.Common.{◌≡◌, ℕ, List, [], ◌∷◌, map, Some, refl, ap, ◌∙◌}
 use Rattle.std.specs.List.{AllByRecursion}
-use Rattle.sched_rows.specs.RowKeys.{row_key_cmp}
-use Rattle.sched_rows.specs.declared.row.Row.{Row}
-use Rattle.std.specs.FinMap.{empty, entries, len-empty, len-entries}
 use Rattle.value_core.specs.declared.state.Triple.{Triple}
 use Rattle.value_core.specs.declared.value.Value.{Value}
 use Rattle.term_core.specs.declared.program.Program.{Program}
@@ -18,6 +15,7 @@ use Rattle.core_rules.specs.Settling.{settle, settle_for}
 use Rattle.term_core.specs.Counts.{in_order}
 use Rattle.current_cli.specs.Transcripts.{opening}
 use Rattle.current_cli.specs.inside.Cores.{LooksUpNothing, empty_world, plain_core, states_over}
+use Rattle.core_rules.proofs.WorkedRuns.{none_listed}
 
 -- no number is listed by a report that lists none
 unlisted : (p : Program) (n : ℕ) → (report_of p).ops ≡ [] → Lists (report_of p).ops n → ⊥
@@ -41,13 +39,6 @@ pub settled : (p : Program) (version : ℕ) (inputs : List Value) → LooksUpNot
 settled p version inputs quiet =
     ap (λ (ts : List Triple). settle_for (in_order ts) (plain_core p version inputs)) (no_wants (plain_core p version inputs) quiet)
 
-no_length : {A : Type 0} (xs : List A) → length xs ≡ 0 → xs ≡ []
-no_length [] e = refl
-no_length (x ∷ xs) e = absurd (omega (arith, e))
-
-no_rows : entries (empty {X = Row} {R = row_key_cmp}) ≡ []
-no_rows = no_length (entries empty) (sym (len-entries empty) ∙ len-empty row_key_cmp Row)
-
 pub opens : (p : Program) → LooksUpNothing p → opening p ≡ Some (plain_core p 1 (map (λ d. d.value) p.inputs))
 unfolding start
-opens p quiet = rw no_rows (settled p 1 (map (λ d. d.value) p.inputs) quiet)
+opens p quiet = rw none_listed (settled p 1 (map (λ d. d.value) p.inputs) quiet)

@@ -6,13 +6,7 @@ use Rattle.std.specs.Io.KnownBytes.{Appends}
 use Rattle.std.proofs.lemmas.List.{append-nil, take-append-drop}
 use Rattle.io_ends.specs.Causes.{AppendsFront}
 use Rattle.current_cli.specs.Outputs.{Output, Print, texts, Did, IsPart, Stopped}
-
-appends_more : (a b c : Option (List ℕ)) (x y z : List ℕ) → Appends a b x → Appends b c y → x ++ y ≡ z → Appends a c z
-appends_more None b c x y z p q e = tt
-appends_more (Some a) None c x y z p q e = absurd p
-appends_more (Some a) (Some b) None x y z p q e = absurd q
-appends_more (Some a) (Some b) (Some c) x y z p q e =
-    q ∙ ap (λ (t : List ℕ). t ++ y) p ∙ append_assoc a x y ∙ ap (λ (t : List ℕ). a ++ t) e
+use Rattle.io_ends.proofs.Appended.{appends_more}
 
 appends_none : (a : Option (List ℕ)) → Appends a a []
 appends_none None = tt

@@ -1,4 +1,4 @@
-//! What the words and a file ask for: a session on the program that the file stands for, its report,
+//! What the words and a file ask for: a session on the file's program, the program's report,
 //! or a refusal.
 ghost use Rattle.std.specs.Prelude.{◌≡◌, IfOk, Some, is_some};
 ghost use Rattle.std.specs.List.{list_any};

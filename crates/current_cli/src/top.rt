@@ -103,7 +103,7 @@ pub fn top<S: Source, K: Sink, F: Files>(
     // of the next are written and the status is that of a fault.
     ensures run { IfSome (F.held files.old) (λ contents. IsRun (request_of words.now) contents
         (S.left input.old) result (K.written out.old) (K.written out.new)) }
-    // A file that is held and stands for a sound program is run or checked, where no count rises.
+    // A file that is held and has a sound program is run or checked, if no count rises.
     ensures complete { IfSome (F.held files.old) (λ contents.
         CanBeDone (request_of words.now) contents
         → (Rose (S.faults input.old) (S.faults input.new) → ⊥)

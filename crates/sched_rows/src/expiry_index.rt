@@ -69,7 +69,7 @@ fn move_up(ends: &mut [End], from: usize)
     }
 }
 
-/// Moves the ends behind a place one place down.
+/// Moves the ends after a place one place down.
 fn move_down(ends: &mut [End], from: usize)
     ensures { ends.new ≡ map (moved_down from) ends.old }
 {
@@ -144,7 +144,7 @@ impl ExpiryIndex {
         move_up(&mut self.ends, place);
     }
 
-    /// Moves the ends behind a place, which has none, one place down.
+    /// Moves the ends after a place, which has none, one place down.
     pub(crate) fn close_place(&mut self, place: usize)
         requires { All (λ e. e.place ≢ place) (keys self.old.set) }
         ensures items { keys self.new.set ≡ map (moved_down place) (keys self.old.set) }

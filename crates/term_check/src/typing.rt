@@ -278,7 +278,7 @@ fn check_list(
     }
 }
 
-/// The second part, behind a first one that is unit.
+/// The second part, after a first one that is unit.
 #[cycle(checking)]
 #[tactic(auto, unfolding(crate::specs::Typing::gate_check))]
 fn check_gate(

@@ -74,7 +74,7 @@ impl Position {
         }
     }
 
-    /// The position behind a part.
+    /// The position after a part.
     pub(crate) fn behind(self, deep: u32, next: u32) -> Position
         ensures { result ≡ behind self deep next }
     {
@@ -243,7 +243,7 @@ pub(crate) fn wrapped(
     }
 }
 
-/// This kind, behind a part.
+/// This kind, after a part.
 pub(crate) fn as_kind(verdict: Verdict, kind: Kind) -> Verdict
     ensures { result ≡ turned_kind (λ _. kind) verdict }
 {
