@@ -24,6 +24,7 @@ pub trait Stages: Lookups {
 }
 
 /// A state with a change that isn't made yet, seen as the state that the change makes.
+#[derive(Drop)]
 pub struct EditedState<'a, P: Stages> {
     parts: &'a P,
     edit: &'a Edit,
