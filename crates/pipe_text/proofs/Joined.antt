@@ -9,6 +9,7 @@ use Rattle.pipe_text.specs.declared.words.DeclWord.TheVariants as decl
 use Rattle.pipe_text.specs.Files.{terms_of, total, one_of, count_of, same_name}
 use Rattle.pipe_text.specs.inside.FileReading.{Bounds, Seen, seen_in}
 use Rattle.pipe_text.specs.inside.Known.{word_of}
+use Rattle.value_core.proofs.Basics.{or_parts}
 pub use Rattle.pipe_text.specs.FirstFault.{Sound}
 
 -- whether a declaration of this kind and name is known, for a client one of the same pool
@@ -76,13 +77,9 @@ known_is v before (Worker d) = refl
 known_is v before (Op d) = refl
 known_is v before (Node d n) = refl
 
-or_false : (a b : Bool) → (a || b) ≡ false → (a ≡ false) × (b ≡ false)
-or_false true b e = absurd cc
-or_false false b e = (refl, e)
-
 none_any : (test : Declaration → Bool) (xs : List Declaration) → list_any test xs ≡ false → AllByRecursion (λ x. test x ≡ false) xs
 none_any test [] e = tt
-none_any test (x ∷ xs) e = let p = or_false (test x) (list_any test xs) e in (p.0, none_any test xs p.1)
+none_any test (x ∷ xs) e = let p = or_parts (test x) (list_any test xs) e in (p.0, none_any test xs p.1)
 
 any_none : (test : Declaration → Bool) (xs : List Declaration) → AllByRecursion (λ x. test x ≡ false) xs → list_any test xs ≡ false
 any_none test [] h = refl

@@ -12,7 +12,7 @@ use Rattle.pipe_text.specs.LimitTable.{number_of}
 use Rattle.pipe_text.specs.inside.FileReading.{Bounds}
 use Rattle.pipe_text.specs.FirstFault.{Begins, GoesOn}
 use Rattle.pipe_text.proofs.Exactly.{tokens_in-append}
-use Rattle.pipe_text.proofs.Finding.{bind_ok, Nothing, Then, Either}
+use Rattle.pipe_text.proofs.Finding.{bind_ok, Nothing, Then, Either, ok_is}
 use Rattle.pipe_text.proofs.Wider.{Wider, Up, wider_refl, up_refl}
 
 -- both go on with the same token
@@ -48,12 +48,6 @@ Ended b r G s ts f = (f ≡ fault_of s) × Begins G (tokens_in ts) × ((e : Boun
 pub record Local {A : Type 0} (b : Bounds) (r : Bounds → Reader A) (G : A → List Token → Type 0) : Type 0 where
   pub ok : (s : Stop) (ts : List TokenAt) (a : A) (rest : List TokenAt) → r b s ts ≡ Ok (a, rest) → Taken b r G s ts a rest
   pub err : (s : Stop) (ts : List TokenAt) (f : Fault) → r b s ts ≡ Err f → Ended b r G s ts f ⊎ AtToken b r G ts f
-
-abbrev done : {A : Type 0} → A → Result A Fault
-done x = Ok x
-
-ok_is : {A : Type 0} (x y : A) → done x ≡ done y → x ≡ y
-ok_is x y e = cc
 
 pub bind_err : {A B : Type 0} (r : Result A Fault) (g : A → Result B Fault) (f : Fault) → (r >>= g) ≡ Err f → (r ≡ Err f) ⊎ ((x : A) × (r ≡ Ok x) × (g x ≡ Err f))
 bind_err {A} (Ok x) g f e = inr (x, refl, e)
