@@ -5,4 +5,5 @@ pub mod FileGrammar
 pub mod Files
 pub mod FirstFault
 pub mod Printing
+pub mod PrintedFiles
 pub mod inside

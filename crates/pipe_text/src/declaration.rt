@@ -93,17 +93,17 @@ pub struct Retention {
 
 /// What an operation begins with.
 #[derive(Drop)]
-pub(crate) struct OpHead {
-    pub(crate) name: Text,
-    pub(crate) kind: OpWord,
+pub struct OpHead {
+    pub name: Text,
+    pub kind: OpWord,
 }
 
 /// What an operation has after its kind.
 #[derive(Drop)]
-pub(crate) struct OpParts {
-    pub(crate) placement: Placement,
-    pub(crate) settings: Settings,
-    pub(crate) retention: Retention,
-    pub(crate) no_cancel: bool,
-    pub(crate) words: ListOf<Text>,
+pub struct OpParts {
+    pub placement: Placement,
+    pub settings: Settings,
+    pub retention: Retention,
+    pub no_cancel: bool,
+    pub words: ListOf<Text>,
 }

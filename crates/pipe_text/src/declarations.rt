@@ -1,10 +1,9 @@
 //! Declarations, up to the end of the file.
-ghost use Rattle.std.specs.Prelude.{◌≡◌, ◌+◌, ◌-◌, ◌≤◌, ◌||◌, List, [], ℕ, IfOk, OnOk};
-ghost use Rattle.pipe_text.specs.declared.words.DeclWord.{DeclWord};
-ghost use Rattle.pipe_text.specs.inside.Readers.{Returns};
+ghost use Rattle.std.specs.Prelude.{◌≡◌, ◌+◌, ◌-◌, ◌≤◌, [], IfOk, OnOk};
+ghost use Rattle.pipe_text.specs.inside.Readers.{Agrees, Takes};
 ghost use Rattle.pipe_text.specs.Files.{limit_of, terms_of, program_of};
 ghost use Rattle.pipe_text.specs.inside.FileReading.{file_bounds, declared_at, paired_at, version_at, rest_at, decl_at, all_at, made, program_at};
-ghost use Rattle.pipe_text.specs.inside.Known.{count_in, named_in, is_named, paired_in, seen_of, word_of, name_of, with_declaration, Knows};
+ghost use Rattle.pipe_text.specs.inside.Known.{count_in, paired_in, seen_of, word_of, name_of, with_declaration, Knows, KnowsOneMore};
 
 use crate::declaration::{Declaration, OpHead};
 use crate::details::{take_op, take_value};
@@ -105,7 +104,7 @@ fn put(program: &mut Program, decl: Declaration) -> Result<(), AllocError>
 
 /// Notes the name of a declaration.
 fn note(alloc: Global, names: &mut Names, decl: &Declaration) -> Result<(), AllocError>
-    ensures { OnOk result ((w : DeclWord) (n : List ℕ) → named_in names.new w n ≡ (is_named (word_of decl.now) (name_of decl.now) w n || named_in names.old w n)) }
+    ensures { OnOk result (KnowsOneMore names.old (word_of decl.now) (name_of decl.now) names.new) }
 {
     let name = decl.name().copy(alloc)?;
     names.add(decl.word(), name)
@@ -119,7 +118,7 @@ fn take_declared<'a>(
     stop: Stop,
     tokens: &'a [TokenAt],
 ) -> Result<(Text, &'a [TokenAt]), TakeError>
-    ensures { Returns (λ x. (x.0, x.1.now)) result (declared_at file_bounds word (seen_of so_far.now) stop tokens.now) }
+    ensures { Takes result (declared_at file_bounds word (seen_of so_far.now) stop tokens.now) }
 {
     let (token, rest) = take_token(stop, tokens)?;
     let what = limit_of(word);
@@ -154,7 +153,7 @@ fn take_paired<'a>(
     stop: Stop,
     tokens: &'a [TokenAt],
 ) -> Result<(Text, &'a [TokenAt]), TakeError>
-    ensures { Returns (λ x. (x.0, x.1.now)) result (paired_at file_bounds (seen_of so_far.now) name.now stop tokens.now) }
+    ensures { Takes result (paired_at file_bounds (seen_of so_far.now) name.now stop tokens.now) }
 {
     let (token, rest) = take_token(stop, tokens)?;
     match &token.token {
@@ -180,7 +179,7 @@ fn take_rest<'a>(
     stop: Stop,
     tokens: &'a [TokenAt],
 ) -> Result<(Declaration, &'a [TokenAt]), TakeError>
-    ensures gives { Returns (λ x. (x.0, x.1.now)) result (rest_at file_bounds (seen_of so_far.now) word stop tokens.now) }
+    ensures gives { Takes result (rest_at file_bounds (seen_of so_far.now) word stop tokens.now) }
     ensures terms { IfOk result (λ x. terms_of x.0 ≤ 4096 - so_far.now.terms) }
 {
     let (name, rest) = take_declared(alloc, word, so_far, stop, tokens)?;
@@ -234,7 +233,7 @@ fn take_decl<'a>(
     stop: Stop,
     tokens: &'a [TokenAt],
 ) -> Result<(Declaration, &'a [TokenAt]), TakeError>
-    ensures gives { Returns (λ x. (x.0, x.1.now)) result (decl_at file_bounds (seen_of so_far.now) stop tokens.now) }
+    ensures gives { Takes result (decl_at file_bounds (seen_of so_far.now) stop tokens.now) }
     ensures terms { IfOk result (λ x. terms_of x.0 ≤ 4096 - so_far.now.terms) }
 {
     let (word, rest) = take_word::<DeclWord>(stop, tokens)?;
@@ -248,7 +247,7 @@ fn take_all(
     stop: Stop,
     tokens: &[TokenAt],
 ) -> Result<Program, TakeError>
-    ensures { Returns (λ p. p) result (made version (all_at file_bounds version [] stop tokens.now)) }
+    ensures { Agrees result (made version (all_at file_bounds version [] stop tokens.now)) }
 {
     let mut so_far = Declarations::new(alloc, version);
     let mut tokens = tokens;
@@ -273,7 +272,7 @@ fn take_all(
 }
 
 fn take_version(stop: Stop, tokens: &[TokenAt]) -> Result<(u32, &[TokenAt]), TakeError>
-    ensures { Returns (λ x. (x.0, x.1.now)) result (version_at stop tokens.now) }
+    ensures { Takes result (version_at stop tokens.now) }
 {
     let (token, rest) = take_token(stop, tokens)?;
     match &token.token {
@@ -286,7 +285,7 @@ fn take_version(stop: Stop, tokens: &[TokenAt]) -> Result<(u32, &[TokenAt]), Tak
 /// The tokens of a whole file.
 #[tactic(auto, unfolding(crate::specs::inside::FileReading::program_at))]
 pub(crate) fn take_file(alloc: Global, stop: Stop, tokens: &[TokenAt]) -> Result<Program, TakeError>
-    ensures { Returns (λ p. p) result (program_at file_bounds stop tokens.now) }
+    ensures { Agrees result (program_at file_bounds stop tokens.now) }
 {
     let rest = take_keyword("pipeline", stop, tokens)?;
     let (version, rest) = take_version(stop, rest)?;

@@ -1,8 +1,9 @@
 //! The parts of declarations.
 ghost use Rattle.std.specs.Prelude.{◌≡◌, ◌≤◌, IfOk};
-ghost use Rattle.pipe_text.specs.inside.Readers.{Returns};
-ghost use Rattle.pipe_text.specs.FileGrammar.{offset_of, op_of};
+ghost use Rattle.pipe_text.specs.inside.Readers.{Takes};
+ghost use Rattle.pipe_text.specs.FileGrammar.{offset_of};
 ghost use Rattle.pipe_text.specs.Files.{file_limits};
+ghost use Rattle.pipe_text.specs.inside.Known.{op_with};
 ghost use Rattle.pipe_text.specs.inside.FileReading.{optional_text_at, flag_at, value_after, value_at, placement_at, level_at, settings_at, offset_at, period_after, schedule_at, expiry_at, retention_at, run_at, op_at};
 
 use crate::declaration::{InputValue, OpHead, OpParts, Placement, Retention, Settings};
@@ -24,7 +25,7 @@ fn take_optional_text<'a>(
     stop: Stop,
     tokens: &'a [TokenAt],
 ) -> Result<(Option<Text>, &'a [TokenAt]), TakeError>
-    ensures { Returns (λ x. (x.0, x.1.now)) result (optional_text_at file_limits letters.now stop tokens.now) }
+    ensures { Takes result (optional_text_at file_limits letters.now stop tokens.now) }
 {
     if !is_at_keyword(letters, tokens) {
         return Ok((None, tokens));
@@ -40,7 +41,7 @@ fn take_flag<'a>(
     stop: Stop,
     tokens: &'a [TokenAt],
 ) -> Result<(bool, &'a [TokenAt]), TakeError>
-    ensures { Returns (λ x. (x.0, x.1.now)) result (flag_at letters.now stop tokens.now) }
+    ensures { Takes result (flag_at letters.now stop tokens.now) }
 {
     if !is_at_keyword(letters, tokens) {
         return Ok((false, tokens));
@@ -55,7 +56,7 @@ fn take_value_after(
     stop: Stop,
     tokens: &[TokenAt],
 ) -> Result<(InputValue, &[TokenAt]), TakeError>
-    ensures { Returns (λ x. (x.0, x.1.now)) result (value_after file_limits word stop tokens.now) }
+    ensures { Takes result (value_after file_limits word stop tokens.now) }
 {
     match word {
         ValueWord::Text => {
@@ -84,7 +85,7 @@ pub(crate) fn take_value(
     stop: Stop,
     tokens: &[TokenAt],
 ) -> Result<(InputValue, &[TokenAt]), TakeError>
-    ensures { Returns (λ x. (x.0, x.1.now)) result (value_at file_limits stop tokens.now) }
+    ensures { Takes result (value_at file_limits stop tokens.now) }
 {
     let (word, rest) = take_word::<ValueWord>(stop, tokens)?;
     take_value_after(alloc, word, stop, rest)
@@ -96,7 +97,7 @@ fn take_placement(
     stop: Stop,
     tokens: &[TokenAt],
 ) -> Result<(Placement, &[TokenAt]), TakeError>
-    ensures { Returns (λ x. (x.0, x.1.now)) result (placement_at file_limits stop tokens.now) }
+    ensures { Takes result (placement_at file_limits stop tokens.now) }
 {
     let rest = take_keyword("pool", stop, tokens)?;
     let (pool, rest) = take_name(alloc, stop, rest)?;
@@ -116,7 +117,7 @@ fn take_placement(
 
 /// The level, which is average if none is next.
 fn take_level(stop: Stop, tokens: &[TokenAt]) -> Result<(Level, &[TokenAt]), TakeError>
-    ensures { Returns (λ x. (x.0, x.1.now)) result (level_at stop tokens.now) }
+    ensures { Takes result (level_at stop tokens.now) }
 {
     if !is_at_keyword("level", tokens) {
         return Ok((Level::Average, tokens));
@@ -131,7 +132,7 @@ fn take_settings(
     stop: Stop,
     tokens: &[TokenAt],
 ) -> Result<(Settings, &[TokenAt]), TakeError>
-    ensures { Returns (λ x. (x.0, x.1.now)) result (settings_at file_limits stop tokens.now) }
+    ensures { Takes result (settings_at file_limits stop tokens.now) }
 {
     let (hint, rest) = take_optional_text(alloc, "hint", stop, tokens)?;
     let (urgent, rest) = take_flag("urgent", stop, rest)?;
@@ -157,7 +158,7 @@ fn offset_of(side: SideWord, minutes: u64) -> i32
 
 /// The side and the minutes of an offset.
 fn take_offset(stop: Stop, tokens: &[TokenAt]) -> Result<(i32, &[TokenAt]), TakeError>
-    ensures { Returns (λ x. (x.0, x.1.now)) result (offset_at file_limits stop tokens.now) }
+    ensures { Takes result (offset_at file_limits stop tokens.now) }
 {
     let (side, rest) = take_word::<SideWord>(stop, tokens)?;
     let (minutes, rest) = take_number(LimitName::Offset, stop, rest)?;
@@ -169,7 +170,7 @@ fn take_period(
     stop: Stop,
     tokens: &[TokenAt],
 ) -> Result<(Expiry, &[TokenAt]), TakeError>
-    ensures { Returns (λ x. (x.0, x.1.now)) result (period_after file_limits word stop tokens.now) }
+    ensures { Takes result (period_after file_limits word stop tokens.now) }
 {
     match word {
         PeriodWord::Daily => {
@@ -197,7 +198,7 @@ fn take_period(
 /// A schedule, after its word.
 #[tactic(auto, unfolding(crate::specs::inside::FileReading::schedule_at))]
 fn take_schedule(stop: Stop, tokens: &[TokenAt]) -> Result<(Expiry, &[TokenAt]), TakeError>
-    ensures { Returns (λ x. (x.0, x.1.now)) result (schedule_at file_limits stop tokens.now) }
+    ensures { Takes result (schedule_at file_limits stop tokens.now) }
 {
     let (word, rest) = take_word::<PeriodWord>(stop, tokens)?;
     take_period(word, stop, rest)
@@ -210,7 +211,7 @@ fn take_expiry(
     stop: Stop,
     tokens: &[TokenAt],
 ) -> Result<(Expiry, &[TokenAt]), TakeError>
-    ensures { Returns (λ x. (x.0, x.1.now)) result (expiry_at file_limits version stop tokens.now) }
+    ensures { Takes result (expiry_at file_limits version stop tokens.now) }
 {
     if is_at_keyword("valid_for", tokens) {
         let rest = take_keyword("valid_for", stop, tokens)?;
@@ -231,7 +232,7 @@ fn take_retention(
     stop: Stop,
     tokens: &[TokenAt],
 ) -> Result<(Retention, &[TokenAt]), TakeError>
-    ensures { Returns (λ x. (x.0, x.1.now)) result (retention_at file_limits version kind stop tokens.now) }
+    ensures { Takes result (retention_at file_limits version kind stop tokens.now) }
 {
     match kind {
         OpWord::Build => {
@@ -256,7 +257,7 @@ fn take_run(
     stop: Stop,
     tokens: &[TokenAt],
 ) -> Result<(ListOf<Text>, &[TokenAt]), TakeError>
-    ensures { Returns (λ x. (x.0, x.1.now)) result (run_at file_limits stop tokens.now) }
+    ensures { Takes result (run_at file_limits stop tokens.now) }
 {
     let rest = take_keyword("run", stop, tokens)?;
     let (first, rest) = take_text(alloc, stop, rest)?;
@@ -265,7 +266,7 @@ fn take_run(
 
 /// The operation of these parts.
 fn op_of(head: OpHead, parts: OpParts) -> OpDecl
-    ensures { result ≡ op_of head.name head.kind parts.placement parts.settings parts.retention parts.no_cancel parts.words }
+    ensures { result ≡ op_with head parts }
 {
     let OpHead { name, kind } = head;
     let OpParts {
@@ -301,7 +302,7 @@ pub(crate) fn take_op(
     stop: Stop,
     tokens: &[TokenAt],
 ) -> Result<(OpDecl, &[TokenAt]), TakeError>
-    ensures { Returns (λ x. (x.0, x.1.now)) result (op_at file_limits version head.name head.kind stop tokens.now) }
+    ensures { Takes result (op_at file_limits version head.name head.kind stop tokens.now) }
 {
     let (placement, rest) = take_placement(alloc, stop, tokens)?;
     let (settings, rest) = take_settings(alloc, stop, rest)?;

@@ -1,10 +1,9 @@
 //! Lists of texts, commands, and literals.
-ghost use Rattle.std.specs.Prelude.{◌≡◌, ◌<◌, [], ◌∷◌, IfOk, IfSome};
-ghost use Rattle.value_core.specs.declared.value.Value.TheVariants as value;
-ghost use Rattle.pipe_text.specs.inside.Readers.{Returns, seq, give};
+ghost use Rattle.std.specs.Prelude.{◌<◌, IfOk, IfSome};
+ghost use Rattle.pipe_text.specs.inside.Readers.{Takes, seq, give};
 ghost use Rattle.pipe_text.specs.Grammar.{list_of};
 ghost use Rattle.pipe_text.specs.Files.{file_limits};
-ghost use Rattle.pipe_text.specs.inside.TermReading.{item_at, command_word_at, texts_at, items_at, literal_at, following};
+ghost use Rattle.pipe_text.specs.inside.TermReading.{item_at, items_from, command_word_at, words_from, items_at, literal_at};
 
 use crate::fault::{LimitName, TakeError};
 use crate::taking::{
@@ -21,7 +20,7 @@ fn take_item(
     stop: Stop,
     tokens: &[TokenAt],
 ) -> Result<(Option<Text>, &[TokenAt]), TakeError>
-    ensures gives { Returns (λ x. (x.0, x.1.now)) result (item_at file_limits room stop tokens.now) }
+    ensures gives { Takes result (item_at file_limits room stop tokens.now) }
     ensures room { IfOk result (λ x. IfSome x.0 (λ t. 0 < room)) }
 {
     let (token, rest) = take_token(stop, tokens)?;
@@ -47,7 +46,7 @@ fn take_more_items(
     stop: Stop,
     tokens: &[TokenAt],
 ) -> Result<(ListOf<Value>, &[TokenAt]), TakeError>
-    ensures { Returns (λ x. (x.0, x.1.now)) result (following value.Words (value.Words first ∷ []) (texts_at (item_at file_limits) 255 stop tokens.now)) }
+    ensures { Takes result (items_from file_limits first stop tokens.now) }
 {
     let mut items = ListOf::new(alloc);
     items.push(Value::Words(first))?;
@@ -75,7 +74,7 @@ pub(crate) fn take_items(
     stop: Stop,
     tokens: &[TokenAt],
 ) -> Result<(Value, &[TokenAt]), TakeError>
-    ensures { Returns (λ x. (x.0, x.1.now)) result (seq (items_at file_limits) (λ ts. give (list_of ts)) stop tokens.now) }
+    ensures { Takes result (seq (items_at file_limits) (λ ts. give (list_of ts)) stop tokens.now) }
 {
     if is_at_mark(b']', tokens) {
         let rest = take_mark(b']', stop, tokens)?;
@@ -93,7 +92,7 @@ pub(crate) fn take_literal(
     stop: Stop,
     tokens: &[TokenAt],
 ) -> Result<(Value, &[TokenAt]), TakeError>
-    ensures { Returns (λ x. (x.0, x.1.now)) result (literal_at file_limits stop tokens.now) }
+    ensures { Takes result (literal_at file_limits stop tokens.now) }
 {
     let (token, rest) = take_token(stop, tokens)?;
     match &token.token {
@@ -126,7 +125,7 @@ fn take_command_word(
     stop: Stop,
     tokens: &[TokenAt],
 ) -> Result<(Option<Text>, &[TokenAt]), TakeError>
-    ensures gives { Returns (λ x. (x.0, x.1.now)) result (command_word_at file_limits room stop tokens.now) }
+    ensures gives { Takes result (command_word_at file_limits room stop tokens.now) }
     ensures room { IfOk result (λ x. IfSome x.0 (λ t. 0 < room)) }
 {
     if !is_at_string(tokens) {
@@ -143,7 +142,7 @@ pub(crate) fn take_more_words(
     stop: Stop,
     tokens: &[TokenAt],
 ) -> Result<(ListOf<Text>, &[TokenAt]), TakeError>
-    ensures { Returns (λ x. (x.0, x.1.now)) result (following (λ t. t) (first ∷ []) (texts_at (command_word_at file_limits) 63 stop tokens.now)) }
+    ensures { Takes result (words_from file_limits first stop tokens.now) }
 {
     let mut words = ListOf::new(alloc);
     words.push(first)?;

@@ -1,11 +1,7 @@
 //! Names of declarations, to look them up.
-ghost use Rattle.std.specs.Prelude.{◌≡◌, ◌||◌, List, ℕ, false, OnOk};
-ghost use Rattle.std.specs.Str.{bytes_eq};
-ghost use Rattle.std.specs.Ordering.{nat_cmp};
-ghost use Rattle.std.specs.Cmp.Lexicographic.{slice_cmp};
-ghost use Rattle.std.specs.BTreeSet.{contains};
+ghost use Rattle.std.specs.Prelude.{◌≡◌, List, ℕ, false, OnOk};
 ghost use Rattle.pipe_text.specs.declared.words.DeclWord.{DeclWord};
-ghost use Rattle.pipe_text.specs.inside.Known.{named_in, is_named};
+ghost use Rattle.pipe_text.specs.inside.Known.{named_in, HasOneMore, KnowsOneMore};
 
 use crate::words::DeclWord;
 use std::alloc::{AllocError, Global};
@@ -25,7 +21,7 @@ pub struct Names {
 
 /// Adds a name: then it and those before it are seen, and no others.
 fn see(seen: &mut BTreeSet<Text>, name: Text) -> Result<(), AllocError>
-    ensures { OnOk result ((n : List ℕ) → contains (slice_cmp nat_cmp) seen.new n ≡ (bytes_eq name n || contains (slice_cmp nat_cmp) seen.old n)) }
+    ensures { OnOk result (HasOneMore seen.old name seen.new) }
 {
     seen.insert(name)?;
     Ok(())
@@ -60,7 +56,7 @@ impl Names {
 
     /// Adds the name of a declaration that begins with a word.
     pub(crate) fn add(&mut self, word: DeclWord, name: Text) -> Result<(), AllocError>
-        ensures { OnOk result ((w : DeclWord) (n : List ℕ) → named_in self.new w n ≡ (is_named word name w n || named_in self.old w n)) }
+        ensures { OnOk result (KnowsOneMore self.old word name self.new) }
     {
         match word {
             DeclWord::Input => see(&mut self.inputs, name),

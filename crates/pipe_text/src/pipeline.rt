@@ -2,7 +2,7 @@
 ghost use Rattle.std.specs.Prelude.{◌≡◌, IfOk, IfErr};
 ghost use Rattle.term_core.specs.declared.program.Program.{Program};
 ghost use Rattle.term_core.specs.Limits.{IsWithinLimits};
-ghost use Rattle.pipe_text.specs.inside.Readers.{Returns};
+ghost use Rattle.pipe_text.specs.inside.Readers.{Agrees};
 ghost use Rattle.pipe_text.specs.Files.{IsFileOf, OneProgramAtMost, Reads};
 ghost use Rattle.pipe_text.specs.FirstFault.{IsRightAnswer};
 ghost use Rattle.pipe_text.specs.inside.FileReading.{read_of, reported, pipeline_of, ReturnsRead};
@@ -17,7 +17,7 @@ use value_core::{Tokens, tokens_of};
 /// The program of a file's bytes, or the first fault.
 #[tactic(auto, unfolding(crate::specs::inside::FileReading::read_of))]
 fn read_file(alloc: Global, bytes: &[u8]) -> Result<Program, TakeError>
-    ensures { Returns (λ p. p) result (read_of bytes.now) }
+    ensures { Agrees result (read_of bytes.now) }
 {
     if LimitName::File.number() < bytes.len() as u64 {
         return Err(limit_at(LimitName::File, 0));

@@ -1,13 +1,13 @@
 //! Printing a program as its file.
-ghost use Rattle.std.specs.Prelude.{◌≡◌, ◌≤◌, ◌∷◌, ◌++◌, [], List, Ok, true, ℤ, length, map, codes, IfOk, OnOk, if◌then◌else◌};
-ghost use Rattle.std.specs.List.{flat_map};
-ghost use Rattle.value_core.specs.declared.token.Token.{Token};
+ghost use Rattle.std.specs.Prelude.{◌≡◌, ◌∷◌, ◌++◌, [], Ok, true, map, codes, IfOk, OnOk, if◌then◌else◌};
 ghost use Rattle.value_core.specs.declared.token.Token.TheVariants.{Name, Number, Words, Mark};
 ghost use Rattle.pipe_text.specs.inside.FileReading.{pipeline_of};
+ghost use Rattle.op_keys.specs.declared.declarations.Expiry.TheVariants.{Daily, Monthly};
 ghost use Rattle.pipe_text.specs.Files.{HasSpelling, IsFileOf, IsSpelled};
+ghost use Rattle.pipe_text.specs.PrintedFiles.{FitsFile};
 ghost use Rattle.pipe_text.specs.Words.{fun_letters, kind_letters, level_letters};
-ghost use Rattle.pipe_text.specs.Printing.{item_tokens, items_tokens, literal_tokens, term_tokens, value_layer_word, text_tokens, flag_tokens, level_tokens, offset_tokens, expiry_tokens, input_tokens, pool_tokens, client_tokens, worker_tokens, kind_tokens, placement_tokens, settings_tokens, retention_tokens, run_tokens, op_tokens, node_tokens, lines_of, pipeline_text, with_token, after, with_end, after_lines};
-ghost use Rattle.value_core.specs.declared.value.Value.{out-Value};
+ghost use Rattle.pipe_text.specs.Printing.{item_tokens, items_tokens, literal_tokens, term_tokens, text_tokens, flag_tokens, level_tokens, offset_tokens, expiry_tokens, input_tokens, pool_tokens, client_tokens, worker_tokens, kind_tokens, placement_tokens, settings_tokens, retention_tokens, run_tokens, op_tokens, node_tokens, lines_of, pipeline_text, with_token, with_end, after_lines};
+ghost use Rattle.pipe_text.specs.inside.Printers.{Prints, return_tokens, fail_tokens, named_tokens, map_tokens, one_tokens, two_tokens, keyed_tokens, under_tokens, terms_tokens, all_tokens, value_tokens};
 
 use op_keys::{ClientDecl, Expiry, Level, OpDecl, PoolDecl, WorkerDecl};
 use std::alloc::Global;
@@ -137,7 +137,7 @@ impl Printer {
 
     /// The bracket and the word that a term begins with.
     fn begin(&mut self, word: &str) -> Result<(), NoMemory>
-        ensures { OnOk result (self.new ≡ after self.old (Mark 40 ∷ Name word.now ∷ [])) }
+        ensures { Prints result self.old self.new (Mark 40 ∷ Name word.now ∷ []) }
     {
         self.open_term()?;
         self.word(word)
@@ -199,7 +199,7 @@ pub fn word_of_level(level: Level) -> &'static str
 }
 
 fn put_item(printer: &mut Printer, item: &Value) -> Result<(), NoMemory>
-    ensures { OnOk result (printer.new ≡ after printer.old (item_tokens item.now)) }
+    ensures { Prints result printer.old printer.new (item_tokens item.now) }
 {
     match item {
         Value::Words(text) => printer.string(text),
@@ -209,7 +209,7 @@ fn put_item(printer: &mut Printer, item: &Value) -> Result<(), NoMemory>
 
 #[tactic(auto, using(crate::proofs::Printings::after_both))]
 fn put_items(printer: &mut Printer, items: &[Value]) -> Result<(), NoMemory>
-    ensures { OnOk result (printer.new ≡ after printer.old (items_tokens items.now)) }
+    ensures { Prints result printer.old printer.new (items_tokens items.now) }
 {
     let mut is_first = true;
     for item in items {
@@ -224,14 +224,14 @@ fn put_items(printer: &mut Printer, items: &[Value]) -> Result<(), NoMemory>
 }
 
 fn put_list(printer: &mut Printer, items: &[Value]) -> Result<(), NoMemory>
-    ensures { OnOk result (printer.new ≡ after printer.old (Mark 91 ∷ items_tokens items.now)) }
+    ensures { Prints result printer.old printer.new (Mark 91 ∷ items_tokens items.now) }
 {
     printer.open_list()?;
     put_items(printer, items)
 }
 
 fn put_literal(printer: &mut Printer, value: &Value) -> Result<(), NoMemory>
-    ensures { OnOk result (printer.new ≡ after printer.old (literal_tokens value.now)) }
+    ensures { Prints result printer.old printer.new (literal_tokens value.now) }
 {
     match value {
         Value::Words(text) => printer.string(text),
@@ -245,7 +245,7 @@ fn put_literal(printer: &mut Printer, value: &Value) -> Result<(), NoMemory>
 
 #[tactic(auto, using(crate::proofs::Printings::after_both))]
 fn put_return(printer: &mut Printer, value: &Value) -> Result<(), NoMemory>
-    ensures { OnOk result (printer.new ≡ after printer.old (Mark 40 ∷ Name (codes "return") ∷ (literal_tokens value.now ++ Mark 41 ∷ []))) }
+    ensures { Prints result printer.old printer.new (return_tokens value.now) }
 {
     printer.begin("return")?;
     put_literal(printer, value)?;
@@ -253,7 +253,7 @@ fn put_return(printer: &mut Printer, value: &Value) -> Result<(), NoMemory>
 }
 
 fn put_fail(printer: &mut Printer, kind: FailKind, message: &Text) -> Result<(), NoMemory>
-    ensures { OnOk result (printer.new ≡ after printer.old (Mark 40 ∷ Name (codes "fail") ∷ Name (kind_letters kind) ∷ Words message.now ∷ Mark 41 ∷ [])) }
+    ensures { Prints result printer.old printer.new (fail_tokens kind message.now) }
 {
     printer.begin("fail")?;
     printer.word(word_of_kind(kind))?;
@@ -262,7 +262,7 @@ fn put_fail(printer: &mut Printer, kind: FailKind, message: &Text) -> Result<(),
 }
 
 fn put_named(printer: &mut Printer, word: &str, name: &Text) -> Result<(), NoMemory>
-    ensures { OnOk result (printer.new ≡ after printer.old (Mark 40 ∷ Name word.now ∷ Name name.now ∷ Mark 41 ∷ [])) }
+    ensures { Prints result printer.old printer.new (named_tokens word.now name.now) }
 {
     printer.begin(word)?;
     printer.name(name)?;
@@ -272,7 +272,7 @@ fn put_named(printer: &mut Printer, word: &str, name: &Text) -> Result<(), NoMem
 #[cycle(printing)]
 #[tactic(auto, using(crate::proofs::Printings::after_both))]
 fn put_map(printer: &mut Printer, fun: Fun, term: &Term) -> Result<(), NoMemory>
-    ensures { OnOk result (printer.new ≡ after printer.old (Mark 40 ∷ Name (codes "map") ∷ Name (fun_letters fun) ∷ (term_tokens term.now ++ Mark 41 ∷ []))) }
+    ensures { Prints result printer.old printer.new (map_tokens fun term.now) }
 {
     printer.begin("map")?;
     printer.word(word_of_fun(fun))?;
@@ -283,7 +283,7 @@ fn put_map(printer: &mut Printer, fun: Fun, term: &Term) -> Result<(), NoMemory>
 #[cycle(printing)]
 #[tactic(auto, using(crate::proofs::Printings::after_both))]
 fn put_one(printer: &mut Printer, word: &str, term: &Term) -> Result<(), NoMemory>
-    ensures { OnOk result (printer.new ≡ after printer.old (Mark 40 ∷ Name word.now ∷ (term_tokens term.now ++ Mark 41 ∷ []))) }
+    ensures { Prints result printer.old printer.new (one_tokens word.now term.now) }
 {
     printer.begin(word)?;
     put_term(printer, term)?;
@@ -293,7 +293,7 @@ fn put_one(printer: &mut Printer, word: &str, term: &Term) -> Result<(), NoMemor
 #[cycle(printing)]
 #[tactic(auto, using(crate::proofs::Printings::after_both))]
 fn put_two(printer: &mut Printer, word: &str, a: &Term, b: &Term) -> Result<(), NoMemory>
-    ensures { OnOk result (printer.new ≡ after printer.old (Mark 40 ∷ Name word.now ∷ ((term_tokens a.now ++ term_tokens b.now) ++ Mark 41 ∷ []))) }
+    ensures { Prints result printer.old printer.new (two_tokens word.now a.now b.now) }
 {
     printer.begin(word)?;
     put_term(printer, a)?;
@@ -304,7 +304,7 @@ fn put_two(printer: &mut Printer, word: &str, a: &Term, b: &Term) -> Result<(), 
 #[cycle(printing)]
 #[tactic(auto, using(crate::proofs::Printings::after_both))]
 fn put_keyed(printer: &mut Printer, word: &str, name: &Text, key: &Term) -> Result<(), NoMemory>
-    ensures { OnOk result (printer.new ≡ after printer.old (Mark 40 ∷ Name word.now ∷ Name name.now ∷ (term_tokens key.now ++ Mark 41 ∷ []))) }
+    ensures { Prints result printer.old printer.new (keyed_tokens word.now name.now key.now) }
 {
     printer.begin(word)?;
     printer.name(name)?;
@@ -321,7 +321,7 @@ fn put_under(
     a: &Term,
     b: &Term,
 ) -> Result<(), NoMemory>
-    ensures { OnOk result (printer.new ≡ after printer.old (Mark 40 ∷ Name word.now ∷ Name name.now ∷ ((term_tokens a.now ++ term_tokens b.now) ++ Mark 41 ∷ []))) }
+    ensures { Prints result printer.old printer.new (under_tokens word.now name.now a.now b.now) }
 {
     printer.begin(word)?;
     printer.name(name)?;
@@ -333,7 +333,7 @@ fn put_under(
 #[cycle(printing)]
 #[tactic(auto, using(crate::proofs::Printings::after_both))]
 fn put_terms(printer: &mut Printer, terms: &[Term]) -> Result<(), NoMemory>
-    ensures { OnOk result (printer.new ≡ after printer.old (flat_map (λ (ks : List Token). ks) (map term_tokens terms.now))) }
+    ensures { Prints result printer.old printer.new (terms_tokens terms.now) }
 {
     for term in terms {
         put_term(printer, term)?;
@@ -344,7 +344,7 @@ fn put_terms(printer: &mut Printer, terms: &[Term]) -> Result<(), NoMemory>
 #[cycle(printing)]
 #[tactic(auto, using(crate::proofs::Printings::after_both))]
 fn put_all(printer: &mut Printer, terms: &[Term]) -> Result<(), NoMemory>
-    ensures { OnOk result (printer.new ≡ after printer.old (Mark 40 ∷ Name (codes "all") ∷ (flat_map (λ (ks : List Token). ks) (map term_tokens terms.now) ++ Mark 41 ∷ []))) }
+    ensures { Prints result printer.old printer.new (all_tokens terms.now) }
 {
     printer.begin("all")?;
     put_terms(printer, terms)?;
@@ -353,7 +353,7 @@ fn put_all(printer: &mut Printer, terms: &[Term]) -> Result<(), NoMemory>
 
 #[cycle(printing)]
 fn put_term(printer: &mut Printer, term: &Term) -> Result<(), NoMemory>
-    ensures { OnOk result (printer.new ≡ after printer.old (term_tokens term.now)) }
+    ensures { Prints result printer.old printer.new (term_tokens term.now) }
 {
     match term {
         Term::Return(value) => put_return(printer, value),
@@ -388,7 +388,7 @@ fn put_term(printer: &mut Printer, term: &Term) -> Result<(), NoMemory>
 }
 
 fn put_optional(printer: &mut Printer, word: &str, text: &Option<Text>) -> Result<(), NoMemory>
-    ensures { OnOk result (printer.new ≡ after printer.old (text_tokens word.now text.now)) }
+    ensures { Prints result printer.old printer.new (text_tokens word.now text.now) }
 {
     match text {
         Some(text) => {
@@ -400,13 +400,13 @@ fn put_optional(printer: &mut Printer, word: &str, text: &Option<Text>) -> Resul
 }
 
 fn put_flag(printer: &mut Printer, word: &str, is_on: bool) -> Result<(), NoMemory>
-    ensures { OnOk result (printer.new ≡ after printer.old (flag_tokens word.now is_on)) }
+    ensures { Prints result printer.old printer.new (flag_tokens word.now is_on) }
 {
     if is_on { printer.word(word) } else { Ok(()) }
 }
 
 fn put_level(printer: &mut Printer, level: Level) -> Result<(), NoMemory>
-    ensures { OnOk result (printer.new ≡ after printer.old (level_tokens level)) }
+    ensures { Prints result printer.old printer.new (level_tokens level) }
 {
     match level {
         Level::Average => Ok(()),
@@ -418,7 +418,7 @@ fn put_level(printer: &mut Printer, level: Level) -> Result<(), NoMemory>
 }
 
 fn put_offset(printer: &mut Printer, offset: i32) -> Result<(), NoMemory>
-    ensures { OnOk result (printer.new ≡ after printer.old (offset_tokens offset)) }
+    ensures { Prints result printer.old printer.new (offset_tokens offset) }
 {
     if offset < 0 {
         printer.word("west")?;
@@ -430,7 +430,7 @@ fn put_offset(printer: &mut Printer, offset: i32) -> Result<(), NoMemory>
 
 #[tactic(auto, using(crate::proofs::Printings::after_both))]
 fn put_daily(printer: &mut Printer, minute: u32, offset: i32) -> Result<(), NoMemory>
-    ensures { OnOk result (printer.new ≡ after printer.old (Name (codes "schedule") ∷ Name (codes "daily") ∷ Number minute ∷ offset_tokens offset)) }
+    ensures { Prints result printer.old printer.new (expiry_tokens (Daily minute offset)) }
 {
     printer.word("schedule")?;
     printer.word("daily")?;
@@ -440,7 +440,7 @@ fn put_daily(printer: &mut Printer, minute: u32, offset: i32) -> Result<(), NoMe
 
 #[tactic(auto, using(crate::proofs::Printings::after_both))]
 fn put_monthly(printer: &mut Printer, day: u32, minute: u32, offset: i32) -> Result<(), NoMemory>
-    ensures { OnOk result (printer.new ≡ after printer.old (Name (codes "schedule") ∷ Name (codes "monthly") ∷ Number day ∷ Number minute ∷ offset_tokens offset)) }
+    ensures { Prints result printer.old printer.new (expiry_tokens (Monthly day minute offset)) }
 {
     printer.word("schedule")?;
     printer.word("monthly")?;
@@ -450,7 +450,7 @@ fn put_monthly(printer: &mut Printer, day: u32, minute: u32, offset: i32) -> Res
 }
 
 fn put_expiry(printer: &mut Printer, expiry: Expiry) -> Result<(), NoMemory>
-    ensures { OnOk result (printer.new ≡ after printer.old (expiry_tokens expiry)) }
+    ensures { Prints result printer.old printer.new (expiry_tokens expiry) }
 {
     match expiry {
         Expiry::Never => Ok(()),
@@ -468,7 +468,7 @@ fn put_expiry(printer: &mut Printer, expiry: Expiry) -> Result<(), NoMemory>
 }
 
 fn put_kind(printer: &mut Printer, op: &OpDecl) -> Result<(), NoMemory>
-    ensures { OnOk result (printer.new ≡ after printer.old (kind_tokens op.now)) }
+    ensures { Prints result printer.old printer.new (kind_tokens op.now) }
 {
     printer.word("op")?;
     printer.name(&op.name)?;
@@ -480,7 +480,7 @@ fn put_kind(printer: &mut Printer, op: &OpDecl) -> Result<(), NoMemory>
 }
 
 fn put_placement(printer: &mut Printer, op: &OpDecl) -> Result<(), NoMemory>
-    ensures { OnOk result (printer.new ≡ after printer.old (placement_tokens op.now)) }
+    ensures { Prints result printer.old printer.new (placement_tokens op.now) }
 {
     printer.word("pool")?;
     printer.name(&op.pool)?;
@@ -493,7 +493,7 @@ fn put_placement(printer: &mut Printer, op: &OpDecl) -> Result<(), NoMemory>
 
 #[tactic(auto, using(crate::proofs::Printings::after_both))]
 fn put_settings(printer: &mut Printer, op: &OpDecl) -> Result<(), NoMemory>
-    ensures { OnOk result (printer.new ≡ after printer.old (settings_tokens op.now)) }
+    ensures { Prints result printer.old printer.new (settings_tokens op.now) }
 {
     put_optional(printer, "hint", &op.hint)?;
     put_flag(printer, "urgent", op.urgent)?;
@@ -502,7 +502,7 @@ fn put_settings(printer: &mut Printer, op: &OpDecl) -> Result<(), NoMemory>
 
 #[tactic(auto, using(crate::proofs::Printings::after_both))]
 fn put_retention(printer: &mut Printer, op: &OpDecl) -> Result<(), NoMemory>
-    ensures { OnOk result (printer.new ≡ after printer.old (retention_tokens op.now)) }
+    ensures { Prints result printer.old printer.new (retention_tokens op.now) }
 {
     put_expiry(printer, op.expiry)?;
     put_flag(printer, "latched", op.latched)?;
@@ -510,7 +510,7 @@ fn put_retention(printer: &mut Printer, op: &OpDecl) -> Result<(), NoMemory>
 }
 
 fn put_run(printer: &mut Printer, words: &[Text]) -> Result<(), NoMemory>
-    ensures { OnOk result (printer.new ≡ after printer.old (run_tokens words.now)) }
+    ensures { Prints result printer.old printer.new (run_tokens words.now) }
 {
     printer.word("run")?;
     for word in words {
@@ -520,7 +520,7 @@ fn put_run(printer: &mut Printer, words: &[Text]) -> Result<(), NoMemory>
 }
 
 fn put_value_word(printer: &mut Printer, value: &Value) -> Result<(), NoMemory>
-    ensures { OnOk result (printer.new ≡ after printer.old (value_layer_word (out-Value value.now))) }
+    ensures { Prints result printer.old printer.new (value_tokens value.now) }
 {
     match value {
         Value::Words(_) => printer.word("text"),
@@ -533,15 +533,15 @@ fn put_value_word(printer: &mut Printer, value: &Value) -> Result<(), NoMemory>
 
 /// What a line of a file declares.
 trait Declared {
-    ghost use Rattle.std.specs.Prelude.{◌≡◌, List, OnOk};
+    ghost use Rattle.std.specs.Prelude.{List};
     ghost use Rattle.value_core.specs.declared.token.Token.{Token};
-    ghost use Rattle.pipe_text.specs.Printing.{after};
+    ghost use Rattle.pipe_text.specs.inside.Printers.{Prints};
 
     /// The tokens of the line.
     ghost tokens: { Self → List Token };
 
     fn put(&self, printer: &mut Printer) -> Result<(), NoMemory>
-        ensures { OnOk result (printer.new ≡ after printer.old (tokens self.now)) };
+        ensures { Prints result printer.old printer.new (tokens self.now) };
 }
 
 impl Declared for InputDecl {
@@ -645,9 +645,9 @@ pub fn print_pipeline(alloc: Global, program: &Program) -> Result<ListOf<u8>, No
     // What is printed spells a program that some bytes spell.
     ensures spelled { IfOk result (λ b. HasSpelling program.now → IsSpelled b program.now) }
     // It is a file of that program, if the bytes are not too many.
-    ensures file { IfOk result (λ b. HasSpelling program.now → length b ≤ 1048576 → IsFileOf b program.now) }
+    ensures file { IfOk result (λ b. FitsFile program.now b → IsFileOf b program.now) }
     // Reading then returns the program.
-    ensures read_back { IfOk result (λ b. HasSpelling program.now → length b ≤ 1048576 → pipeline_of b ≡ Ok program.now) }
+    ensures read_back { IfOk result (λ b. FitsFile program.now b → pipeline_of b ≡ Ok program.now) }
 {
     let mut printer = Printer::new(alloc);
     put_program(&mut printer, program)?;

@@ -2,7 +2,7 @@
 ghost use Rattle.std.specs.Prelude.{◌≡◌, ◌<◌, ◌≤◌, IfOk};
 ghost use Rattle.value_core.specs.Literals.{is_mark_of};
 ghost use Rattle.pipe_text.specs.LimitTable.{number_of};
-ghost use Rattle.pipe_text.specs.inside.Readers.{Returns, fault_of, token_at, mark_at, word_at, keyword_at, is_keyword, is_string, next_passes};
+ghost use Rattle.pipe_text.specs.inside.Readers.{Returns, Takes, Passes, fault_of, token_at, mark_at, word_at, keyword_at, is_keyword, is_string, next_passes};
 ghost use Rattle.pipe_text.specs.Files.{file_limits};
 ghost use Rattle.pipe_text.specs.inside.TermReading.{beyond, name_at, text_at, number_at, room_at, open_at};
 ghost use Rattle.pipe_text.specs.inside.FileReading.{any_number_at};
@@ -83,7 +83,7 @@ pub(crate) fn is_at_keyword(letters: &str, tokens: &[TokenAt]) -> bool
 }
 
 pub(crate) fn take_mark(mark: u8, stop: Stop, tokens: &[TokenAt]) -> Result<&[TokenAt], TakeError>
-    ensures { Returns (λ x. (tt, x.now)) result (mark_at mark stop tokens.now) }
+    ensures { Passes result (mark_at mark stop tokens.now) }
 {
     let (token, rest) = take_token(stop, tokens)?;
     match &token.token {
@@ -104,7 +104,7 @@ pub(crate) fn take_keyword<'a>(
     stop: Stop,
     tokens: &'a [TokenAt],
 ) -> Result<&'a [TokenAt], TakeError>
-    ensures { Returns (λ x. (tt, x.now)) result (keyword_at letters.now stop tokens.now) }
+    ensures { Passes result (keyword_at letters.now stop tokens.now) }
 {
     let (token, rest) = take_token(stop, tokens)?;
     match &token.token {
@@ -124,7 +124,7 @@ pub(crate) fn take_word<W: Keyword>(
     stop: Stop,
     tokens: &[TokenAt],
 ) -> Result<(W, &[TokenAt]), TakeError>
-    ensures { Returns (λ x. (x.0, x.1.now)) result (word_at W.parsed stop tokens.now) }
+    ensures { Takes result (word_at W.parsed stop tokens.now) }
 {
     let (token, rest) = take_token(stop, tokens)?;
     match &token.token {
@@ -141,7 +141,7 @@ pub(crate) fn take_name(
     stop: Stop,
     tokens: &[TokenAt],
 ) -> Result<(Text, &[TokenAt]), TakeError>
-    ensures { Returns (λ x. (x.0, x.1.now)) result (name_at file_limits stop tokens.now) }
+    ensures { Takes result (name_at file_limits stop tokens.now) }
 {
     let (token, rest) = take_token(stop, tokens)?;
     match &token.token {
@@ -156,7 +156,7 @@ pub(crate) fn take_text(
     stop: Stop,
     tokens: &[TokenAt],
 ) -> Result<(Text, &[TokenAt]), TakeError>
-    ensures { Returns (λ x. (x.0, x.1.now)) result (text_at file_limits stop tokens.now) }
+    ensures { Takes result (text_at file_limits stop tokens.now) }
 {
     let (token, rest) = take_token(stop, tokens)?;
     match &token.token {
@@ -174,7 +174,7 @@ pub(crate) fn take_room(
     stop: Stop,
     tokens: &[TokenAt],
 ) -> Result<(Text, &[TokenAt]), TakeError>
-    ensures gives { Returns (λ x. (x.0, x.1.now)) result (room_at file_limits what room stop tokens.now) }
+    ensures gives { Takes result (room_at file_limits what room stop tokens.now) }
     ensures room { IfOk result (λ x. 0 < room) }
 {
     let (token, rest) = take_token(stop, tokens)?;
@@ -195,7 +195,7 @@ pub(crate) fn take_any_number(
     stop: Stop,
     tokens: &[TokenAt],
 ) -> Result<(u64, &[TokenAt]), TakeError>
-    ensures { Returns (λ x. (x.0, x.1.now)) result (any_number_at stop tokens.now) }
+    ensures { Takes result (any_number_at stop tokens.now) }
 {
     let (token, rest) = take_token(stop, tokens)?;
     match &token.token {
@@ -210,7 +210,7 @@ pub(crate) fn take_number(
     stop: Stop,
     tokens: &[TokenAt],
 ) -> Result<(u64, &[TokenAt]), TakeError>
-    ensures gives { Returns (λ x. (x.0, x.1.now)) result (number_at file_limits what stop tokens.now) }
+    ensures gives { Takes result (number_at file_limits what stop tokens.now) }
     ensures within { IfOk result (λ x. x.0 ≤ number_of what) }
 {
     let (token, rest) = take_token(stop, tokens)?;
@@ -235,7 +235,7 @@ pub(crate) fn take_open(
     stop: Stop,
     tokens: &[TokenAt],
 ) -> Result<&[TokenAt], TakeError>
-    ensures gives { Returns (λ x. (tt, x.now)) result (open_at depth left stop tokens.now) }
+    ensures gives { Passes result (open_at depth left stop tokens.now) }
     ensures room { IfOk result (λ x. (0 < depth) × (0 < left)) }
 {
     let (token, rest) = take_token(stop, tokens)?;

@@ -1,8 +1,7 @@
 //! Terms, each after its opening bracket.
 ghost use Rattle.std.specs.Prelude.{◌≡◌, ◌+◌, ◌<◌, ◌≤◌, ◌-◌, ◌^◌, IfOk, IfSome};
-ghost use Rattle.pipe_text.specs.inside.Readers.{Returns};
-ghost use Rattle.pipe_text.specs.Files.{file_limits};
-ghost use Rattle.pipe_text.specs.inside.TermReading.{two_at, part_at, parts_at, body_at, term_at};
+ghost use Rattle.pipe_text.specs.inside.Readers.{Takes, TakesCounted};
+ghost use Rattle.pipe_text.specs.inside.Rooms.{term_in, two_in, part_in, parts_in, body_in, TakesTwo};
 
 use crate::fault::TakeError;
 use crate::literals::take_literal;
@@ -63,7 +62,7 @@ fn take_body(
     tokens: &[TokenAt],
 ) -> Result<(Term, u32, &[TokenAt]), TakeError>
     requires { room.left < 2 ^ 31 }
-    ensures gives { Returns (λ x. ((x.0, x.1), x.2.now)) result (body_at file_limits (term_at file_limits room.depth) room.left word stop tokens.now) }
+    ensures gives { TakesCounted result (body_in room word stop tokens.now) }
     ensures used { IfOk result (λ x. (0 < x.1) × (x.1 ≤ room.left + 1)) }
 {
     match word {
@@ -191,7 +190,7 @@ fn take_two(
     tokens: &[TokenAt],
 ) -> Result<(TermPair, u32, &[TokenAt]), TakeError>
     requires { room.left < 2 ^ 31 }
-    ensures gives { Returns (λ x. (((x.0.first, x.0.second), x.1), x.2.now)) result (two_at (term_at file_limits room.depth) room.left stop tokens.now) }
+    ensures gives { TakesTwo result (two_in room stop tokens.now) }
     ensures used { IfOk result (λ x. x.1 ≤ room.left) }
 {
     let (first, used, rest) = take_term(alloc, room, stop, tokens)?;
@@ -212,7 +211,7 @@ fn take_part(
     tokens: &[TokenAt],
 ) -> Result<(Option<(Term, u32)>, &[TokenAt]), TakeError>
     requires { room.left < 2 ^ 31 }
-    ensures gives { Returns (λ x. (x.0, x.1.now)) result (part_at (term_at file_limits room.depth) room.left stop tokens.now) }
+    ensures gives { Takes result (part_in room stop tokens.now) }
     ensures used { IfOk result (λ x. IfSome x.0 (λ a. (0 < a.1) × (a.1 ≤ room.left))) }
 {
     if !is_at_mark(b'(', tokens) {
@@ -231,7 +230,7 @@ fn take_parts(
     tokens: &[TokenAt],
 ) -> Result<(ListOf<Term>, u32, &[TokenAt]), TakeError>
     requires { room.left < 2 ^ 31 }
-    ensures gives { Returns (λ x. ((x.0, x.1), x.2.now)) result (parts_at (term_at file_limits room.depth) room.left room.left stop tokens.now) }
+    ensures gives { TakesCounted result (parts_in room stop tokens.now) }
     ensures used { IfOk result (λ x. x.1 ≤ room.left) }
 {
     let mut parts = ListOf::new(alloc);
@@ -262,7 +261,7 @@ pub(crate) fn take_term(
     tokens: &[TokenAt],
 ) -> Result<(Term, u32, &[TokenAt]), TakeError>
     requires { room.left < 2 ^ 31 }
-    ensures gives { Returns (λ x. ((x.0, x.1), x.2.now)) result (term_at file_limits room.depth room.left stop tokens.now) }
+    ensures gives { TakesCounted result (term_in room stop tokens.now) }
     ensures used { IfOk result (λ x. (0 < x.1) × (x.1 ≤ room.left)) }
 {
     let rest = match take_open(room.depth, room.left, stop, tokens) {

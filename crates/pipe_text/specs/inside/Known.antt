@@ -1,17 +1,21 @@
 -- What is known of declarations that were read, with their names in sets.
-use Rattle.std.specs.Prelude.{◌≡◌, ℕ, ◌≤◌, ◌&&◌, Bool, false, List, [], ◌∷◌, ◌++◌, length}
+use Rattle.std.specs.Prelude.{◌≡◌, ℕ, ◌≤◌, ◌&&◌, ◌||◌, Bool, false, List, [], ◌∷◌, ◌++◌, length}
 use Rattle.std.specs.Ordering.{nat_cmp}
 use Rattle.std.specs.Cmp.Lexicographic.{slice_cmp}
 use Rattle.std.specs.List.{list_any}
 use Rattle.std.specs.Str.{bytes_eq}
-use Rattle.std.specs.BTreeSet.{contains}
+use Rattle.std.specs.BTreeSet.{BTreeSet, contains}
 use Rattle.term_core.specs.declared.program.Program.{Program}
+use Rattle.op_keys.specs.declared.declarations.OpDecl.{OpDecl}
+use Rattle.pipe_text.specs.declared.declaration.OpHead.{OpHead}
+use Rattle.pipe_text.specs.declared.declaration.OpParts.{OpParts}
 use Rattle.pipe_text.specs.declared.declaration.Declaration.{Declaration}
 use Rattle.pipe_text.specs.declared.declaration.Declaration.TheVariants.{Input, Pool, Client, Worker, Op, Node}
 use Rattle.pipe_text.specs.declared.declarations.Declarations.{Declarations}
 use Rattle.pipe_text.specs.declared.names.Names.{Names}
 use Rattle.pipe_text.specs.declared.words.DeclWord.{DeclWord}
 use Rattle.pipe_text.specs.declared.words.DeclWord.TheVariants as decl
+use Rattle.pipe_text.specs.FileGrammar.{op_of}
 use Rattle.pipe_text.specs.Files.{program_of, all_terms, has_name}
 use Rattle.pipe_text.specs.inside.FileReading.{Seen}
 
@@ -41,6 +45,14 @@ is_named decl.Worker m decl.Worker n = bytes_eq m n
 is_named decl.Op m decl.Op n = bytes_eq m n
 is_named decl.Node m decl.Node n = bytes_eq m n
 is_named v m w n = false
+
+-- a set of names has this one more, and no others
+abbrev pub HasOneMore : BTreeSet (List ℕ) → List ℕ → BTreeSet (List ℕ) → Type 0
+HasOneMore old m new = (n : List ℕ) → contains (slice_cmp nat_cmp) new n ≡ (bytes_eq m n || contains (slice_cmp nat_cmp) old n)
+
+-- the names of a kind have this one more after this word, and no others
+abbrev pub KnowsOneMore : Names → DeclWord → List ℕ → Names → Type 0
+KnowsOneMore old v m new = (w : DeclWord) (n : List ℕ) → named_in new w n ≡ (is_named v m w n || named_in old w n)
 
 -- whether a program has this client of this pool
 abbrev pub paired_in : Program → List ℕ → List ℕ → Bool
@@ -83,3 +95,7 @@ pub record Knows (version : ℕ) (before : List Declaration) (so_far : Declarati
   pub names : (w : DeclWord) (n : List ℕ) → named_in so_far.names w n ≡ list_any (has_name w n) before
   pub terms : so_far.terms ≡ all_terms before
   pub few : so_far.terms ≤ 4096
+
+-- the operation of what it begins with and of what it has after its kind
+abbrev pub op_with : OpHead → OpParts → OpDecl
+op_with head parts = op_of head.name head.kind parts.placement parts.settings parts.retention parts.no_cancel parts.words

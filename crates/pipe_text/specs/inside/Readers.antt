@@ -1,5 +1,6 @@
 -- Readers of tokens from left to right, with one token in hand.
 use Rattle.std.specs.Prelude.{◌≡◌, ℕ, ◌==◌, Bool, true, false, List, [], ◌∷◌, Result, Ok, Err, if◌then◌else◌, Option, Some, None}
+use Rattle.std.specs.Borrow.{Bor}
 use Rattle.std.specs.Str.{bytes_eq}
 use Rattle.value_core.specs.declared.token.Token.{Token}
 use Rattle.value_core.specs.declared.token.Token.TheVariants.{Name, Words, Mark, LongText}
@@ -26,6 +27,22 @@ Fails (At f) read = read ≡ Err f
 abbrev pub Returns : {X Y : Type 0} → (X → Y) → Result X TakeError → Result Y Fault → Type 0
 Returns view (Ok x) read = read ≡ Ok (view x)
 Returns view (Err e) read = Fails e read
+
+-- what a function returned is what reading returns as it is, or out of memory
+abbrev pub Agrees : {X : Type 0} → Result X TakeError → Result X Fault → Type 0
+Agrees = Returns (λ x. x)
+
+-- the value that a function returned, and the tokens left, are those that reading returns
+abbrev pub Takes : {A : Type 0} → Result (A × Bor (List TokenAt)) TakeError → Result (A × List TokenAt) Fault → Type 0
+Takes = Returns (λ x. (x.0, x.1.now))
+
+-- the same of a value with a number beside it
+abbrev pub TakesCounted : {A : Type 0} → Result (A × ℕ × Bor (List TokenAt)) TakeError → Result ((A × ℕ) × List TokenAt) Fault → Type 0
+TakesCounted = Returns (λ x. ((x.0, x.1), x.2.now))
+
+-- the same of a token that has no value
+abbrev pub Passes : Result (Bor (List TokenAt)) TakeError → Result (Unit {0} × List TokenAt) Fault → Type 0
+Passes = Returns (λ x. (tt, x.now))
 
 -- A reader takes a value from the front of the tokens. Where they stop there is one fault.
 abbrev pub Reader : Type 0 → Type 0

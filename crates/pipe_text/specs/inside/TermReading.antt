@@ -161,6 +161,14 @@ term_at lim (suc d) n = seq (open_at (suc d) n) (λ u. seq (word_at body_word) (
 abbrev pub following : {V : Type 0} → (List ℕ → V) → List V → Result (List (List ℕ) × List TokenAt) Fault → Result (List V × List TokenAt) Fault
 following f before read = read >>= λ x. Ok (before ++ map f x.0, x.1)
 
+-- the texts of a list as values, from the first on, which was read before
+abbrev pub items_from : Limits → List ℕ → Reader (List Value)
+items_from lim first s ts = following value.Words (value.Words first ∷ []) (texts_at (item_at lim) lim.more_items s ts)
+
+-- the words of a command, from the first on, which was read before
+abbrev pub words_from : Limits → List ℕ → Reader (List (List ℕ))
+words_from lim first s ts = following (λ t. t) (first ∷ []) (texts_at (command_word_at lim) lim.more_words s ts)
+
 -- the terms that were read before, in front of those that are read
 abbrev pub following_parts : List Term → ℕ → Result ((List Term × ℕ) × List TokenAt) Fault → Result ((List Term × ℕ) × List TokenAt) Fault
 following_parts before used read = read >>= λ x. Ok ((before ++ x.0.0, used + x.0.1), x.1)

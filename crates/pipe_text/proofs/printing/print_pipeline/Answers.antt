@@ -13,6 +13,6 @@ returns c =
     record {
       bytes = is;
       spelled = λ given. subst (λ (b : List ℕ). IsSpelled b c.args.program.now) (sym is) (printed_spells c.args.program.now given);
-      file = λ given few. subst (λ (b : List ℕ). IsFileOf b c.args.program.now) (sym is) (printed_stands c.args.program.now given (subst (λ (b : List ℕ). length b ≤ 1048576) is few));
-      read_back = λ given few. ap pipeline_of is ∙ printed_read c.args.program.now given (subst (λ (b : List ℕ). length b ≤ 1048576) is few);
+      file = λ fits. subst (λ (b : List ℕ). IsFileOf b c.args.program.now) (sym is) (printed_stands c.args.program.now fits.spelling (subst (λ (b : List ℕ). length b ≤ 1048576) is fits.few_bytes));
+      read_back = λ fits. ap pipeline_of is ∙ printed_read c.args.program.now fits.spelling (subst (λ (b : List ℕ). length b ≤ 1048576) is fits.few_bytes);
     }
