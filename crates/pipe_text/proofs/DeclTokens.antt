@@ -27,7 +27,7 @@ use Rattle.pipe_text.specs.declared.words.SideWord.TheVariants as side
 use Rattle.pipe_text.specs.Words.{decl_letters, op_letters}
 use Rattle.pipe_text.specs.Files.{file_limits}
 use Rattle.pipe_text.specs.Grammar.{NameIs, NumberIs, Texts, list_of, one}
-use Rattle.pipe_text.specs.FileGrammar.{Optional, is_given, is_absent, SomeText, Flag, ValueIs, is_text_value, is_num_value, is_list_value, PlacementIs, is_placement, LevelIs, SettingsAre, is_settings, offset_of, OffsetIs, ExpiryIs, is_never, is_after, is_daily, is_monthly, RetentionIs, is_build_retention, is_output_retention, RunIs, is_run, is_output_word, op_of, Declares, is_input_decl, is_pool_decl, is_client_decl, is_worker_decl, is_op_decl, is_node_decl, DeclareAll, }
+use Rattle.pipe_text.specs.FileGrammar.{Optional, is_given, is_absent, SomeText, Flag, ValueIs, is_text_value, is_num_value, is_list_value, PlacementIs, is_placement, LevelIs, SettingsAre, is_settings, offset_of, OffsetIs, ExpiryIs, is_never, is_after, is_daily, is_monthly, RetentionIs, is_build_retention, is_output_retention, RunIs, is_run, is_output_word, op_of, Declares, is_input_decl, is_pool_decl, is_client_decl, is_worker_decl, is_op_decl, is_node_decl, DeclareAll}
 use Rattle.pipe_text.specs.Printing.{items_tokens, literal_tokens, term_tokens, value_layer_word, text_tokens, flag_tokens, level_tokens, offset_tokens, expiry_tokens, run_tokens, op_tokens}
 use Rattle.pipe_text.proofs.GoodTokens.{IsGood, each_left, each_right}
 use Rattle.pipe_text.proofs.TermTokens.{IsShort, AllShort, each_both, name_is, text_is, number_is, Are, items_are, words_tokens, num_tokens, list_tokens, following_are, none_are, spelled_are}

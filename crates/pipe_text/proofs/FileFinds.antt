@@ -31,10 +31,10 @@ use Rattle.pipe_text.specs.declared.words.PeriodWord.{PeriodWord}
 use Rattle.pipe_text.specs.declared.words.PeriodWord.TheVariants as period
 use Rattle.pipe_text.specs.Words.{decl_letters, decl_word, value_letters, value_word, op_letters, op_word, period_letters, period_word, side_letters, side_word, level_letters, level_word}
 use Rattle.pipe_text.specs.Grammar.{Limits, Items, list_of}
-use Rattle.pipe_text.specs.FileGrammar.{Optional, is_given, is_absent, SomeText, On, Flag, ValueIs, is_text_value, is_num_value, is_list_value, PlacementIs, is_placement, LevelIs, SettingsAre, is_settings, offset_of, OffsetIs, ExpiryIs, is_never, is_after, is_daily, is_monthly, RetentionIs, is_build_retention, is_output_retention, RunIs, is_run, op_of, Declares, is_input_decl, is_pool_decl, is_client_decl, is_worker_decl, is_op_decl, is_node_decl, DeclareAll, }
+use Rattle.pipe_text.specs.FileGrammar.{Optional, is_given, is_absent, SomeText, On, Flag, ValueIs, is_text_value, is_num_value, is_list_value, PlacementIs, is_placement, LevelIs, SettingsAre, is_settings, offset_of, OffsetIs, ExpiryIs, is_never, is_after, is_daily, is_monthly, RetentionIs, is_build_retention, is_output_retention, RunIs, is_run, op_of, Declares, is_input_decl, is_pool_decl, is_client_decl, is_worker_decl, is_op_decl, is_node_decl, DeclareAll}
 use Rattle.pipe_text.specs.inside.Readers.{◌>>=◌, Reader, give, seq, unless_ended, mark_at, word_at, keyword_at, is_keyword, if_keyword}
 use Rattle.pipe_text.specs.inside.TermReading.{Counted, name_at, text_at, number_at, command_word_at, texts_at, items_at, term_at}
-use Rattle.pipe_text.specs.inside.FileReading.{Bounds, Seen, seen_in, declared_choice, declared_at, paired_choice, paired_at, any_number_choice, any_number_at, optional_text_at, flag_at, value_after, value_at, placement_at, level_at, settings_at, offset_at, period_after, schedule_at, expiry_at, retention_at, run_at, op_at, rest_at, decl_at, decls_at, }
+use Rattle.pipe_text.specs.inside.FileReading.{Bounds, Seen, seen_in, declared_choice, declared_at, paired_choice, paired_at, any_number_choice, any_number_at, optional_text_at, flag_at, value_after, value_at, placement_at, level_at, settings_at, offset_at, period_after, schedule_at, expiry_at, retention_at, run_at, op_at, rest_at, decl_at, decls_at}
 use Rattle.pipe_text.proofs.Exactly.{tokens_in-append, tokens_in-length}
 use Rattle.pipe_text.proofs.Finding.{Finds, bind_ok, ok_is, finds_same, Nothing, finds_give, Then, finds_seq, Dressed, finds_as, FindsFor, for_if, finds_by, finds_one, Either, finds_peek, Single, IsMark, finds_mark}
 use Rattle.pipe_text.proofs.WordLaws.{decl_letters_are, value_letters_are, op_letters_are, period_letters_are, side_letters_are, level_letters_are}

@@ -29,7 +29,7 @@ use Rattle.pipe_text.specs.FileGrammar.{Optional, SomeText, On, Flag, ValueIs, P
 use Rattle.pipe_text.specs.Files.{limit_of}
 use Rattle.pipe_text.specs.inside.Readers.{Reader, give, seq, mark_at, word_at, keyword_at, is_keyword, if_keyword}
 use Rattle.pipe_text.specs.inside.TermReading.{beyond, Counted, name_at, text_at, number_at, command_word_at, texts_at, items_at}
-use Rattle.pipe_text.specs.inside.FileReading.{Bounds, Seen, declared_choice, declared_at, paired_choice, paired_at, any_number_choice, any_number_at, optional_text_at, flag_at, value_after, value_at, placement_at, level_at, settings_at, offset_at, period_after, schedule_at, expiry_at, retention_at, run_at, op_at, rest_at, decl_at, }
+use Rattle.pipe_text.specs.inside.FileReading.{Bounds, Seen, declared_choice, declared_at, paired_choice, paired_at, any_number_choice, any_number_at, optional_text_at, flag_at, value_after, value_at, placement_at, level_at, settings_at, offset_at, period_after, schedule_at, expiry_at, retention_at, run_at, op_at, rest_at, decl_at}
 use Rattle.pipe_text.specs.FirstFault.{SameLimit, Begins}
 use Rattle.pipe_text.proofs.Finding.{Nothing, Then, Dressed, Either, Single, IsMark}
 use Rattle.pipe_text.proofs.WordLaws.{decl_letters_are, value_letters_are, op_letters_are, period_letters_are, side_letters_are, level_letters_are}

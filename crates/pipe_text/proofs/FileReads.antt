@@ -27,13 +27,13 @@ use Rattle.pipe_text.specs.declared.words.OpWord.{OpWord}
 use Rattle.pipe_text.specs.declared.words.PeriodWord.TheVariants as period
 use Rattle.pipe_text.specs.Words.{decl_letters, decl_word, value_letters, value_word, op_letters, op_word, period_letters, period_word, side_letters, side_word, level_letters, level_word}
 use Rattle.pipe_text.specs.Grammar.{Limits, NameIs, list_of, one}
-use Rattle.pipe_text.specs.FileGrammar.{Optional, is_given, is_absent, SomeText, On, Flag, ValueIs, is_text_value, is_num_value, is_list_value, PlacementIs, is_placement, LevelIs, SettingsAre, is_settings, offset_of, OffsetIs, ExpiryIs, is_never, is_after, is_daily, is_monthly, RetentionIs, is_build_retention, is_output_retention, RunIs, is_run, op_of, Declares, is_input_decl, is_pool_decl, is_client_decl, is_worker_decl, is_op_decl, is_node_decl, DeclareAll, }
+use Rattle.pipe_text.specs.FileGrammar.{Optional, is_given, is_absent, SomeText, On, Flag, ValueIs, is_text_value, is_num_value, is_list_value, PlacementIs, is_placement, LevelIs, SettingsAre, is_settings, offset_of, OffsetIs, ExpiryIs, is_never, is_after, is_daily, is_monthly, RetentionIs, is_build_retention, is_output_retention, RunIs, is_run, op_of, Declares, is_input_decl, is_pool_decl, is_client_decl, is_worker_decl, is_op_decl, is_node_decl, DeclareAll}
 use Rattle.pipe_text.specs.inside.Readers.{Reader, give, seq, mark_at, word_at, only, keyword_at, is_keyword, if_keyword}
 use Rattle.pipe_text.specs.inside.TermReading.{Counted, name_at, text_at, number_at, command_word_at, texts_at, items_at, term_at}
 use Rattle.std.specs.List.{list_any}
 use Rattle.pipe_text.specs.Files.{has_name}
 use Rattle.pipe_text.specs.declared.declaration.Declaration.TheVariants.{Input, Pool, Client, Worker, Op, Node}
-use Rattle.pipe_text.specs.inside.FileReading.{Bounds, Seen, seen_in, declared_choice, declared_at, paired_choice, paired_at, any_number_choice, any_number_at, optional_text_at, flag_at, value_after, value_at, placement_at, level_at, settings_at, offset_at, period_after, schedule_at, expiry_at, retention_at, run_at, op_at, rest_at, decl_at, decls_at, }
+use Rattle.pipe_text.specs.inside.FileReading.{Bounds, Seen, seen_in, declared_choice, declared_at, paired_choice, paired_at, any_number_choice, any_number_at, optional_text_at, flag_at, value_after, value_at, placement_at, level_at, settings_at, offset_at, period_after, schedule_at, expiry_at, retention_at, run_at, op_at, rest_at, decl_at, decls_at}
 use Rattle.pipe_text.proofs.Exactly.{ReadsIf, Any, Takes, reads_if, reads_give, reads_seq, reads_then, reads_as, reads_branch, reads_yes, reads_no, reads_mark, reads_word, Not, split_tokens_in, nil_of, cons_is, tokens_in-length}
 use Rattle.pipe_text.proofs.WordLaws.{decl_word_is, value_word_is, op_word_is, period_word_is, side_word_is, level_word_is}
 use Rattle.pipe_text.proofs.TermReads.{Under, reads_name, reads_text, reads_number, reads_texts, reads_items, NoString, reads_no_word, reads_one_word, all_read}

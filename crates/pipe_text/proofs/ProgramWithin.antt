@@ -30,7 +30,7 @@ use Rattle.pipe_text.specs.declared.words.SideWord.{SideWord}
 use Rattle.pipe_text.specs.declared.words.SideWord.TheVariants as side
 use Rattle.pipe_text.specs.LimitTable.{number_of, least_of}
 use Rattle.pipe_text.specs.Grammar.{NumberIs, Texts, one}
-use Rattle.pipe_text.specs.FileGrammar.{Optional, is_given, is_absent, SomeText, ValueIs, is_text_value, is_num_value, is_list_value, PlacementIs, is_placement, SettingsAre, is_settings, offset_of, OffsetIs, ExpiryIs, is_never, is_after, is_daily, is_monthly, RetentionIs, is_build_retention, is_output_retention, RunIs, is_run, Declares, is_input_decl, is_pool_decl, is_client_decl, is_worker_decl, is_op_decl, is_node_decl, DeclareAll, }
+use Rattle.pipe_text.specs.FileGrammar.{Optional, is_given, is_absent, SomeText, ValueIs, is_text_value, is_num_value, is_list_value, PlacementIs, is_placement, SettingsAre, is_settings, offset_of, OffsetIs, ExpiryIs, is_never, is_after, is_daily, is_monthly, RetentionIs, is_build_retention, is_output_retention, RunIs, is_run, Declares, is_input_decl, is_pool_decl, is_client_decl, is_worker_decl, is_op_decl, is_node_decl, DeclareAll}
 use Rattle.pipe_text.specs.Files.{file_limits, input_in, pool_in, client_in, worker_in, op_in, node_in, program_of, all_terms, count_of, same_name, limit_of, IsFileOf}
 use Rattle.pipe_text.specs.inside.Known.{count_in}
 use Rattle.pipe_text.proofs.GoodTokens.{Good, good_tokens, good_left, good_right, good_rest, good_first}

@@ -18,7 +18,7 @@ use Rattle.pipe_text.specs.declared.fault.LimitName.TheVariants as limit
 use Rattle.pipe_text.specs.Words.{body_letters, body_word, fun_letters, fun_word, kind_letters, kind_word}
 use Rattle.value_core.specs.Literals.{tokens_in, is_mark_of}
 use Rattle.pipe_text.specs.inside.Readers.{Reader, give, seq, mark_at, word_at, is_string, next_passes}
-use Rattle.pipe_text.specs.Grammar.{Limits, NameIs, TextIs, NumberIs, is_within, Texts, Items, list_of, IsLiteral, is_text, is_number, is_unit, is_list, form, What, one, many, Spells, is_return, is_fail, is_input, is_node, is_var, is_map, is_pair, is_bind, is_list_map, is_list_iter, is_catch, is_state, is_gate, is_all, is_build, is_output, no_more, one_more, }
+use Rattle.pipe_text.specs.Grammar.{Limits, NameIs, TextIs, NumberIs, is_within, Texts, Items, list_of, IsLiteral, is_text, is_number, is_unit, is_list, form, What, one, many, Spells, is_return, is_fail, is_input, is_node, is_var, is_map, is_pair, is_bind, is_list_map, is_list_iter, is_catch, is_state, is_gate, is_all, is_build, is_output, no_more, one_more}
 use Rattle.pipe_text.specs.inside.TermReading.{name_choice, name_at, text_choice, text_at, number_choice, number_at, room_choice, room_at, item_choice, item_at, command_word_at, with_text_read, texts_at, items_at, literal_choice, literal_at, Counted, open_choice, open_at, two_at, part_at, parts_at, body_at, term_at}
 use Rattle.pipe_text.proofs.Exactly.{ReadsIf, Any, Takes, reads_if, reads_give, reads_seq, reads_then, reads_as, reads_branch, reads_yes, reads_no, reads_mark, reads_word, cons_is, nil_of}
 use Rattle.pipe_text.proofs.WordLaws.{body_word_is, fun_word_is, kind_word_is}

@@ -14,7 +14,7 @@ use Rattle.pipe_text.specs.declared.words.BodyWord.{BodyWord}
 use Rattle.pipe_text.specs.declared.words.BodyWord.TheVariants as word
 use Rattle.pipe_text.specs.Words.{fun_letters, kind_letters}
 use Rattle.pipe_text.specs.Files.{file_limits}
-use Rattle.pipe_text.specs.Grammar.{NameIs, TextIs, NumberIs, Texts, Items, list_of, IsLiteral, is_text, is_number, is_unit, is_list, form, What, one, many, Spells, is_return, is_fail, is_input, is_node, is_var, is_map, is_pair, is_bind, is_list_map, is_list_iter, is_catch, is_state, is_gate, is_all, is_build, is_output, no_more, one_more, }
+use Rattle.pipe_text.specs.Grammar.{NameIs, TextIs, NumberIs, Texts, Items, list_of, IsLiteral, is_text, is_number, is_unit, is_list, form, What, one, many, Spells, is_return, is_fail, is_input, is_node, is_var, is_map, is_pair, is_bind, is_list_map, is_list_iter, is_catch, is_state, is_gate, is_all, is_build, is_output, no_more, one_more}
 use Rattle.pipe_text.specs.Printing.{item_layer, item_tokens, more_items, items_tokens, literal_layer, literal_tokens, term_tokens, term_tokens_step}
 use Rattle.value_core.proofs.Layers.{out_at}
 

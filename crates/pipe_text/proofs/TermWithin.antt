@@ -18,7 +18,7 @@ use Rattle.pipe_text.specs.declared.words.BodyWord.{BodyWord}
 use Rattle.pipe_text.specs.declared.words.BodyWord.TheVariants as word
 use Rattle.pipe_text.specs.Words.{fun_letters, kind_letters}
 use Rattle.pipe_text.specs.Files.{file_limits}
-use Rattle.pipe_text.specs.Grammar.{NameIs, TextIs, Texts, Items, list_of, IsLiteral, is_text, is_number, is_unit, is_list, form, What, one, many, Spells, is_return, is_fail, is_input, is_node, is_var, is_map, is_pair, is_bind, is_list_map, is_list_iter, is_catch, is_state, is_gate, is_all, is_build, is_output, no_more, one_more, }
+use Rattle.pipe_text.specs.Grammar.{NameIs, TextIs, Texts, Items, list_of, IsLiteral, is_text, is_number, is_unit, is_list, form, What, one, many, Spells, is_return, is_fail, is_input, is_node, is_var, is_map, is_pair, is_bind, is_list_map, is_list_iter, is_catch, is_state, is_gate, is_all, is_build, is_output, no_more, one_more}
 use Rattle.pipe_text.proofs.GoodTokens.{IsGood, bytes_of, bytes_in, Good, bytes_append, good_left, good_right, good_rest, good_first}
 use Rattle.value_core.proofs.Basics.{and_both, is_nat_le}
 use Rattle.value_core.proofs.Layers.{list_weight, num_weight, out_at, unit_weight, words_weight}
