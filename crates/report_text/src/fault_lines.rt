@@ -1,7 +1,7 @@
 //! The lines of faulty files.
-ghost use Rattle.std.specs.Prelude.{◌≡◌, ◌++◌, IfOk, OnOk, codes};
-ghost use Rattle.std.specs.String.{string_bytes};
+ghost use Rattle.std.specs.Prelude.{◌≡◌, IfOk};
 ghost use Rattle.report_text.specs.FaultLines.{check_text, error_line, found_text, other_text, place_text, read_text, what_text};
+ghost use Rattle.report_text.specs.inside.Writers.{Adds, mismatch_text};
 
 use crate::names::name_at;
 use pipe_text::ReadFault;
@@ -13,7 +13,7 @@ use value_core::{Kind, ListOf, NoMemory};
 /// Writes what is wrong with the bytes of a file.
 #[tactic(auto, unfolding(crate::specs::FaultLines::read_text))]
 fn write_read_fault(out: &mut String, fault: &ReadFault) -> Result<(), NoMemory>
-    ensures { OnOk result (string_bytes out.new ≡ string_bytes out.old ++ read_text fault.now) }
+    ensures { Adds result out.old out.new (read_text fault.now) }
 {
     match fault {
         ReadFault::Lex(place) => write!(out, "lex at {place}"),
@@ -33,7 +33,7 @@ fn write_read_fault(out: &mut String, fault: &ReadFault) -> Result<(), NoMemory>
 /// Writes in which declaration a fault is.
 #[tactic(auto, unfolding(crate::specs::FaultLines::place_text))]
 fn write_place(out: &mut String, program: &Program, place: FaultPlace) -> Result<(), NoMemory>
-    ensures { OnOk result (string_bytes out.new ≡ string_bytes out.old ++ place_text program.now place) }
+    ensures { Adds result out.old out.new (place_text program.now place) }
 {
     match place {
         FaultPlace::Client(number) => {
@@ -59,7 +59,7 @@ fn write_place(out: &mut String, program: &Program, place: FaultPlace) -> Result
 /// Writes the kind that was found.
 #[tactic(auto, unfolding(crate::specs::FaultLines::found_text))]
 fn write_found(out: &mut String, found: &Kind) -> Result<(), NoMemory>
-    ensures { OnOk result (string_bytes out.new ≡ string_bytes out.old ++ found_text found.now) }
+    ensures { Adds result out.old out.new (found_text found.now) }
 {
     out.push_str(": found ")?;
     write_kind(out, found)
@@ -68,7 +68,7 @@ fn write_found(out: &mut String, found: &Kind) -> Result<(), NoMemory>
 /// Writes the kind that was wanted.
 #[tactic(auto, unfolding(crate::specs::FaultLines::other_text))]
 fn write_other(out: &mut String, wanted: &Wanted) -> Result<(), NoMemory>
-    ensures { OnOk result (string_bytes out.new ≡ string_bytes out.old ++ other_text wanted.now) }
+    ensures { Adds result out.old out.new (other_text wanted.now) }
 {
     out.push_str(", wanted ")?;
     write_wanted(out, wanted)
@@ -76,7 +76,7 @@ fn write_other(out: &mut String, wanted: &Wanted) -> Result<(), NoMemory>
 
 /// Writes two kinds that differ.
 fn write_mismatch(out: &mut String, found: &Kind, wanted: &Wanted) -> Result<(), NoMemory>
-    ensures { OnOk result (string_bytes out.new ≡ string_bytes out.old ++ (codes "kind mismatch" ++ (found_text found.now ++ other_text wanted.now))) }
+    ensures { Adds result out.old out.new (mismatch_text found.now wanted.now) }
 {
     out.push_str("kind mismatch")?;
     write_found(out, found)?;
@@ -86,7 +86,7 @@ fn write_mismatch(out: &mut String, found: &Kind, wanted: &Wanted) -> Result<(),
 /// Writes what is wrong there.
 #[tactic(auto, unfolding(crate::specs::FaultLines::what_text))]
 fn write_what(out: &mut String, what: &CheckWhat) -> Result<(), NoMemory>
-    ensures { OnOk result (string_bytes out.new ≡ string_bytes out.old ++ what_text what.now) }
+    ensures { Adds result out.old out.new (what_text what.now) }
 {
     match what {
         CheckWhat::UnknownName(name) => {

@@ -1,9 +1,9 @@
 //! The lines of a session.
-ghost use Rattle.std.specs.Prelude.{◌≡◌, ◌++◌, IfOk, IfSome, OnOk, slice_get};
-ghost use Rattle.std.specs.String.{string_bytes};
+ghost use Rattle.std.specs.Prelude.{◌≡◌, IfOk, IfSome, slice_get};
 ghost use Rattle.core_rules.specs.Replies.{changed_from};
 ghost use Rattle.report_text.specs.Lines.{node_line, node_name, refusal_words, refused_line, stage_word, state_text, version_text};
 ghost use Rattle.report_text.specs.LastShown.{is_shown};
+ghost use Rattle.report_text.specs.inside.Writers.{Adds};
 
 use crate::names::name_at;
 use core_rules::Refusal;
@@ -29,7 +29,7 @@ fn stage_word(stage: Stage) -> &'static str
 
 #[tactic(auto, unfolding(crate::specs::Lines::state_text))]
 fn write_state(out: &mut String, program: &Program, state: &State) -> Result<(), NoMemory>
-    ensures { OnOk result (string_bytes out.new ≡ string_bytes out.old ++ state_text program.now state.now) }
+    ensures { Adds result out.old out.new (state_text program.now state.now) }
 {
     match state {
         State::Fine(value) => {
@@ -59,7 +59,7 @@ fn write_line(
     node: usize,
     state: &State,
 ) -> Result<(), NoMemory>
-    ensures { OnOk result (string_bytes out.new ≡ string_bytes out.old ++ node_line program.now (node, state.now)) }
+    ensures { Adds result out.old out.new (node_line program.now (node, state.now)) }
 {
     out.push_str(node_name(program, node))?;
     out.push_str(": ")?;
@@ -87,7 +87,8 @@ pub fn version_lines(
     before: &[State],
     states: &[State],
 ) -> Result<ListOf<u8>, NoMemory>
-    ensures { IfOk result (λ text. text ≡ version_text program.now version (changed_from 0 before.now states.now)) }
+    ensures { IfOk result (λ text. text ≡ version_text program.now version
+        (changed_from 0 before.now states.now)) }
 {
     let mut out = format!(in alloc; "version {version}\n")?;
     for (node, state) in states.iter().enumerate() {
@@ -100,7 +101,7 @@ pub fn version_lines(
 
 /// Writes why an event is refused. Nothing is written where that ends a session.
 fn write_refusal(out: &mut String, refusal: Refusal) -> Result<(), NoMemory>
-    ensures { OnOk result (IfSome (refusal_words refusal) (λ why. string_bytes out.new ≡ string_bytes out.old ++ why)) }
+    ensures { IfSome (refusal_words refusal) (λ why. Adds result out.old out.new why) }
 {
     match refusal {
         Refusal::UnknownInput => out.push_str("unknown input"),
@@ -123,7 +124,7 @@ fn write_refusal(out: &mut String, refusal: Refusal) -> Result<(), NoMemory>
 
 /// The line of a refusal, where it has one: that numbers or memory are used up ends a session.
 pub fn refusal_line(alloc: Global, refusal: Refusal) -> Result<ListOf<u8>, NoMemory>
-    ensures { IfOk result (λ line. IfSome (refusal_words refusal) (λ why. line ≡ refused_line why)) }
+    ensures { IfOk result (λ b. IfSome (refusal_words refusal) (λ why. b ≡ refused_line why)) }
 {
     let mut line = String::from_str(alloc, "refused ")?;
     write_refusal(&mut line, refusal)?;

@@ -1,7 +1,7 @@
 //! The lines of a report.
-ghost use Rattle.std.specs.Prelude.{◌≡◌, ◌<◌, ◌++◌, ◌∷◌, [], IfOk, OnOk, codes, length};
-ghost use Rattle.std.specs.String.{string_bytes};
-ghost use Rattle.report_text.specs.Reports.{AreNumbersOf, level_words, line, name_at, names_at, or_none, report_text, spaced, yes_or_no};
+ghost use Rattle.std.specs.Prelude.{◌≡◌, ◌<◌, ◌++◌, ◌∷◌, [], IfOk, codes, length};
+ghost use Rattle.report_text.specs.Reports.{AreNumbersOf, level_words, line, name_at, names_at, report_text, spaced, yes_or_no};
+ghost use Rattle.report_text.specs.inside.Writers.{Adds, names_or_none};
 
 use op_keys::{Level, Named};
 use pipe_text::word_of_level;
@@ -11,25 +11,21 @@ use term_core::Program;
 use value_core::{ListOf, NoMemory};
 
 /// Writes the name of the declaration with this number, after a space.
-fn write_name<D: Named>(out: &mut String, declarations: &[D], number: u32) -> Result<(), NoMemory>
-    requires { number < length declarations.now }
-    ensures { OnOk result (string_bytes out.new ≡ string_bytes out.old ++ (codes " " ++ name_at D.named declarations.now number)) }
+fn write_name<D: Named>(out: &mut String, decls: &[D], number: u32) -> Result<(), NoMemory>
+    requires { number < length decls.now }
+    ensures { Adds result out.old out.new (codes " " ++ name_at D.named decls.now number) }
 {
     out.push_str(" ")?;
-    out.push_str(declarations[number as usize].name().as_str())
+    out.push_str(decls[number as usize].name().as_str())
 }
 
 /// Writes the names of the declarations with these numbers, each after a space.
-fn write_names<D: Named>(
-    out: &mut String,
-    declarations: &[D],
-    numbers: &[u32],
-) -> Result<(), NoMemory>
-    requires { AreNumbersOf declarations.now numbers.now }
-    ensures { OnOk result (string_bytes out.new ≡ string_bytes out.old ++ spaced (names_at D.named declarations.now numbers.now)) }
+fn write_names<D: Named>(out: &mut String, decls: &[D], numbers: &[u32]) -> Result<(), NoMemory>
+    requires { AreNumbersOf decls.now numbers.now }
+    ensures { Adds result out.old out.new (spaced (names_at D.named decls.now numbers.now)) }
 {
     for number in numbers {
-        write_name(out, declarations, *number)?;
+        write_name(out, decls, *number)?;
     }
     Ok(())
 }
@@ -37,15 +33,15 @@ fn write_names<D: Named>(
 /// Writes the same, or that there are none.
 fn write_names_or_none<D: Named>(
     out: &mut String,
-    declarations: &[D],
+    decls: &[D],
     numbers: &[u32],
 ) -> Result<(), NoMemory>
-    requires { AreNumbersOf declarations.now numbers.now }
-    ensures { OnOk result (string_bytes out.new ≡ string_bytes out.old ++ spaced (or_none (names_at D.named declarations.now numbers.now))) }
+    requires { AreNumbersOf decls.now numbers.now }
+    ensures { Adds result out.old out.new (spaced (names_or_none D.named decls.now numbers.now)) }
 {
     match numbers {
         [] => out.push_str(" none"),
-        _ => write_names(out, declarations, numbers),
+        _ => write_names(out, decls, numbers),
     }
 }
 
@@ -54,22 +50,22 @@ fn write_names_or_none<D: Named>(
 fn write_names_line<D: Named>(
     out: &mut String,
     label: &str,
-    declarations: &[D],
+    decls: &[D],
     numbers: &[u32],
 ) -> Result<(), NoMemory>
-    requires { AreNumbersOf declarations.now numbers.now }
-    ensures { OnOk result (string_bytes out.new ≡ string_bytes out.old ++ line label.now (names_at D.named declarations.now numbers.now)) }
+    requires { AreNumbersOf decls.now numbers.now }
+    ensures { Adds result out.old out.new (line label.now (names_at D.named decls.now numbers.now)) }
 {
     out.push_str(label)?;
     out.push_str(":")?;
-    write_names_or_none(out, declarations, numbers)?;
+    write_names_or_none(out, decls, numbers)?;
     out.push_str("\n")
 }
 
 /// Writes a line of one word.
 #[tactic(auto, unfolding(crate::specs::Reports::line))]
 fn write_word_line(out: &mut String, label: &str, word: &str) -> Result<(), NoMemory>
-    ensures { OnOk result (string_bytes out.new ≡ string_bytes out.old ++ line label.now (word.now ∷ [])) }
+    ensures { Adds result out.old out.new (line label.now (word.now ∷ [])) }
 {
     out.push_str(label)?;
     out.push_str(": ")?;
@@ -80,7 +76,7 @@ fn write_word_line(out: &mut String, label: &str, word: &str) -> Result<(), NoMe
 /// Writes the line of the greatest level, or that there is none.
 #[tactic(auto, unfolding(crate::specs::Reports::line))]
 fn write_level_line(out: &mut String, level: Option<Level>) -> Result<(), NoMemory>
-    ensures { OnOk result (string_bytes out.new ≡ string_bytes out.old ++ line (codes "greatest level") (level_words level)) }
+    ensures { Adds result out.old out.new (line (codes "greatest level") (level_words level)) }
 {
     match level {
         Some(level) => write_word_line(out, "greatest level", word_of_level(level)),

@@ -1,0 +1,18 @@
+-- What the functions that write add to a text.
+use Rattle.std.specs.Prelude.{◌≡◌, ℕ, List, ◌++◌, codes, Result, OnOk, String, string_bytes}
+use Rattle.value_core.specs.declared.value.Kind.{Kind}
+use Rattle.term_check.specs.declared.wanted.Wanted.{Wanted}
+use Rattle.report_text.specs.FaultLines.{found_text, other_text}
+use Rattle.report_text.specs.Reports.{names_at, or_none}
+
+-- unless something failed, the text has these bytes more
+abbrev pub Adds : {A E Z : Type 0} → Result A E → String Z → String Z → List ℕ → Type 0
+Adds result old new more = OnOk result (string_bytes new ≡ string_bytes old ++ more)
+
+-- the names of the declarations with these numbers, or the word none where there are none
+abbrev pub names_or_none : {D : Type 0} → (D → List ℕ) → List D → List ℕ → List (List ℕ)
+names_or_none name ds ns = or_none (names_at name ds ns)
+
+-- two kinds that differ
+abbrev pub mismatch_text : Kind → Wanted → List ℕ
+mismatch_text found wanted = codes "kind mismatch" ++ (found_text found ++ other_text wanted)
