@@ -2,3 +2,4 @@ pub mod Reports
 pub mod Lines
 pub mod LastShown
 pub mod FaultLines
+pub mod Controls
