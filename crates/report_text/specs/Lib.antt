@@ -2,4 +2,5 @@ pub mod Reports
 pub mod Lines
 pub mod LastShown
 pub mod FaultLines
+pub mod Controls
 pub mod inside
