@@ -7,6 +7,7 @@ pub mod Single
 pub mod Stages
 pub mod Plans
 pub mod Wants
+pub mod Walks
 pub mod Rowing
 pub mod RowTests
 pub mod Marking

@@ -1,5 +1,5 @@
 //! Live jobs, found by their numbers and by their operations and keys.
-ghost use Rattle.std.specs.Prelude.{◌≡◌, ◌-◌, ◌<◌, ◌≤◌, [], ◌∷◌, ◌++◌, true, max, vec_len, insert, IfOk, OnOk, OnErr, Some, None};
+ghost use Rattle.std.specs.Prelude.{◌≡◌, ◌-◌, ◌^◌, ◌<◌, ◌≤◌, [], ◌∷◌, ◌++◌, true, length, max, slice_get, vec_len, insert, IfOk, OnOk, OnErr, Some, None};
 ghost use Rattle.std.specs.Option.{option_copied};
 ghost use Rattle.std.specs.Vec.{vec_capacity};
 ghost use Rattle.value_core.specs.Orders.{same_triple};
@@ -7,7 +7,8 @@ ghost use Rattle.core_rules.specs.Core.{has_job, job_numbered, with_job, without
 ghost use Rattle.core_rules.specs.Entries.{job_of};
 ghost use Rattle.core_rules.specs.Laws.{JobsBelow, OneEach, Rising};
 ghost use Rattle.core_rules.specs.Settling.{live_on, on_key};
-ghost use Rattle.job_core.specs.Keys.{is_found_before, key_cmp, key_rank, rank_found};
+ghost use Rattle.job_core.specs.Keys.{by_keys, is_found_before, is_key_before, key_cmp, key_rank, rank_found};
+ghost use Rattle.job_core.specs.Walks.{passes};
 
 use crate::numbered::Numbered;
 use core_rules::{Job, Mark};
@@ -149,6 +150,28 @@ impl LiveJobs {
         }
     }
 
+    /// How many jobs there are.
+    pub(crate) fn len(&self) -> usize
+        ensures len { result ≡ length self.now.jobs }
+        ensures rising { Rising self.now.jobs }
+        ensures one_each { OneEach self.now.jobs }
+    {
+        self.by_key.len()
+    }
+
+    /// The job of a rank in the order of operations and keys.
+    pub(crate) fn in_keys(&self, rank: usize) -> Option<&Job>
+        ensures job { option_copied result ≡ slice_get (by_keys self.now.jobs) rank }
+        ensures one_each { OneEach self.now.jobs }
+        ensures few { length self.now.jobs < 2 ^ 64 }
+    {
+        if rank < self.by_key.len() {
+            self.numbered.find(self.by_key[rank])
+        } else {
+            None
+        }
+    }
+
     /// Adds the job of the greatest number, for which there is room.
     pub(crate) fn add(&mut self, job: Job)
         requires above { JobsBelow job.number self.old.jobs }
@@ -229,5 +252,51 @@ impl LiveJobs {
             numbered: self.numbered.copy(alloc)?,
             by_key,
         })
+    }
+}
+
+/// A walk over the live jobs in order of operations and keys, for those that are asked for in order.
+#[derive(Drop)]
+pub(crate) struct LiveWalk<'a> {
+    live: &'a LiveJobs,
+    /// How many jobs are passed: each has a lesser operation and key than any that is still asked for.
+    passed: usize,
+}
+
+impl<'a> LiveWalk<'a> {
+    pub(crate) fn new(live: &'a LiveJobs) -> LiveWalk<'a>
+        ensures live { result.live.now ≡ live.now }
+        ensures passed { result.passed ≡ 0 }
+    {
+        LiveWalk { live, passed: 0 }
+    }
+
+    /// Whether the next job has a lesser operation and key.
+    fn is_past(&self, op: u32, key: &Text) -> bool
+        ensures past { result ≡ passes (is_key_before op key.now) (slice_get (by_keys self.now.live.now.jobs) self.now.passed) }
+        ensures few { length self.now.live.now.jobs < 2 ^ 64 }
+    {
+        match self.live.in_keys(self.passed) {
+            Some(job) => key_order(&job.triple, op, key).is_lt(),
+            None => false,
+        }
+    }
+
+    /// The job of an operation and key that aren't less than the last ones.
+    pub(crate) fn on(&mut self, op: u32, key: &Text) -> Option<&'a Job>
+        requires { self.old.passed ≤ key_rank op key.now self.old.live.now.jobs }
+        ensures live { self.new.live ≡ self.old.live }
+        ensures passed { self.new.passed ≡ key_rank op key.now self.old.live.now.jobs }
+        ensures job { option_copied result ≡ live_on self.old.live.now.jobs op key.now }
+    {
+        while self.is_past(op, key) {
+            self.passed += 1;
+        }
+        let job = self.live.in_keys(self.passed)?;
+        if is_on(&job.triple, op, key) {
+            Some(job)
+        } else {
+            None
+        }
     }
 }

@@ -39,34 +39,43 @@ fn has_valid(rows: &Rows, op: &OpDecl, triple: &Triple, now: u64) -> bool
     }
 }
 
-/// Whether the row of a triple will be valid after a change of the rows.
-pub(crate) fn has_valid_after(
-    rows: &Rows,
-    change: &RowChange,
-    op: &OpDecl,
-    triple: &Triple,
-    now: u64,
-) -> bool
-    requires range { IsInRange op.now.expiry }
-    requires timely { PutsInTime change.now }
-    ensures { result ≡ is_valid_row op.now.expiry now (option_and_then (with_value triple.now.value) (get (rows_made change.now rows.now.rows) (row_key op.now.name triple.now.key))) }
-{
-    match change {
-        RowChange::None => has_valid(rows, op, triple, now),
-        RowChange::Put(row) => if is_key(&row.op, &row.key, &op.name, &triple.key) {
-            is_valid(row, op, &triple.value, now)
-        } else {
-            has_valid(rows, op, triple, now)
-        },
-        RowChange::Void(name, key) => if is_key(name, key, &op.name, &triple.key) {
-            false
-        } else {
-            has_valid(rows, op, triple, now)
-        },
-        RowChange::Mark(name, key) => if is_key(name, key, &op.name, &triple.key) {
-            false
-        } else {
-            has_valid(rows, op, triple, now)
-        },
+/// The rows at a moment, after a change of them.
+#[derive(Drop)]
+pub(crate) struct RowsAfter<'a> {
+    pub(crate) rows: &'a Rows,
+    pub(crate) change: &'a RowChange,
+    pub(crate) moment: u64,
+}
+
+impl RowsAfter<'_> {
+    /// Whether the row of a triple is valid.
+    pub(crate) fn has_valid(&self, op: &OpDecl, triple: &Triple) -> bool
+        requires range { IsInRange op.now.expiry }
+        requires timely { PutsInTime self.now.change.now }
+        ensures { result ≡ is_valid_row op.now.expiry self.now.moment (option_and_then (with_value triple.now.value) (get (rows_made self.now.change.now self.now.rows.now.rows) (row_key op.now.name triple.now.key))) }
+    {
+        let RowsAfter {
+            rows,
+            change,
+            moment,
+        } = *self;
+        match change {
+            RowChange::None => has_valid(rows, op, triple, moment),
+            RowChange::Put(row) => if is_key(&row.op, &row.key, &op.name, &triple.key) {
+                is_valid(row, op, &triple.value, moment)
+            } else {
+                has_valid(rows, op, triple, moment)
+            },
+            RowChange::Void(name, key) => if is_key(name, key, &op.name, &triple.key) {
+                false
+            } else {
+                has_valid(rows, op, triple, moment)
+            },
+            RowChange::Mark(name, key) => if is_key(name, key, &op.name, &triple.key) {
+                false
+            } else {
+                has_valid(rows, op, triple, moment)
+            },
+        }
     }
 }

@@ -1,20 +1,21 @@
 //! Plans: what an own change and settling will make of the jobs, before anything changes.
-ghost use Rattle.std.specs.Prelude.{◌≡◌, ℕ, ◌^◌, ◌<◌, ◌≤◌, length, max, true, IfOk, OnOk, OnErr, Some, None};
+ghost use Rattle.std.specs.Prelude.{◌≡◌, ℕ, ◌^◌, ◌<◌, ◌≤◌, length, max, true, option_map, slice_get, IfOk, OnOk, OnErr, Some, None};
 ghost use Rattle.std.specs.List.{AllByRecursion};
 ghost use Rattle.job_core.specs.Answers.{IsUsed};
 ghost use Rattle.core_rules.specs.Core.{has_job};
 ghost use Rattle.core_rules.specs.Laws.{IsReferredBy};
 ghost use Rattle.core_rules.specs.Parts.{core_of};
 ghost use Rattle.core_rules.specs.Replies.{with_numbers};
-ghost use Rattle.core_rules.specs.Settling.{newly_marked, settle_for};
+ghost use Rattle.core_rules.specs.Entries.{row_of};
+ghost use Rattle.core_rules.specs.Settling.{is_valid, newly_marked, settle_for};
 ghost use Rattle.job_core.specs.Marking.{cancelled_jobs, listed};
 
 use super::Jobs;
 use crate::answers::SettleFault;
-use crate::live_jobs::LiveJobs;
+use crate::live_jobs::{LiveJobs, LiveWalk};
 use crate::plan::{JobsPlan, NewJob};
-use crate::row_look::has_valid_after;
-use crate::wants::{drops, is_target, lost};
+use crate::row_look::RowsAfter;
+use crate::wants::{Unwanted, is_open};
 use core_rules::{Mark, Own, RowChange};
 use op_keys::hint_of;
 use sched_rows::Rows;
@@ -67,7 +68,9 @@ impl Jobs {
     ghost use Rattle.job_core.specs.Plans.{IsPlanFor, plan_next, plan_signals, planned, triples_of};
     ghost use Rattle.core_rules.specs.Own.{PutsInTime, rows_made};
     ghost use Rattle.job_core.specs.Rowing.{changed_core};
+    ghost use Rattle.job_core.specs.Keys.{key_rank};
     ghost use Rattle.job_core.specs.State.{core_at};
+    ghost use Rattle.job_core.specs.Walks.{IsWalked};
     ghost use Rattle.job_core.specs.Wants.{AreWants, HasHint, fresh_of, TriplesRise, is_fresh, triples_in};
 
     /// The job that an own change marks by itself.
@@ -119,25 +122,32 @@ impl Jobs {
         }
     }
 
-    /// Whether a wanted triple gets a job.
+    /// Whether the row of a triple is valid among these rows.
+    fn has_valid(&self, rows: &RowsAfter<'_>, triple: &Triple) -> bool
+        requires declared { triple.now.op < length self.now.work.program.ops }
+        requires timely { PutsInTime rows.now.change.now }
+        ensures { result ≡ is_valid (core_of self.now.work (rows_made rows.now.change.now rows.now.rows.now.rows) rows.now.moment) (slice_get self.now.work.program.ops triple.now.op) (row_of (core_of self.now.work (rows_made rows.now.change.now rows.now.rows.now.rows) rows.now.moment) triple.now) }
+    {
+        rows.has_valid(&self.program.ops.as_slice()[triple.op as usize], triple)
+    }
+
+    /// Whether the wanted triple of an index gets a job. The walk comes to its operation and key.
     fn is_fresh(
         &self,
-        live: &LiveJobs,
         wants: &[(Triple, u64)],
-        rows: &Rows,
-        change: &RowChange,
-        triple: &Triple,
-        now: u64,
+        index: usize,
+        walk: &mut LiveWalk<'_>,
+        rows: &RowsAfter<'_>,
     ) -> bool
-        requires rising { TriplesRise (triples_in wants.now) }
-        requires declared { triple.now.op < length self.now.work.program.ops }
-        requires timely { PutsInTime change.now }
-        ensures { result ≡ is_fresh (triples_in wants.now) (core_of (record self.now.work { jobs = live.now.jobs }) (rows_made change.now rows.now.rows) now) triple.now }
+        requires wants { AreWants (length self.now.work.program.ops) wants.now }
+        requires within { index < length wants.now }
+        requires timely { PutsInTime rows.now.change.now }
+        requires later { IsWalked walk.old.live.now.jobs walk.old.passed (slice_get (triples_in wants.now) index) }
+        ensures fresh { option_map (is_fresh (triples_in wants.now) (core_of (record self.now.work { jobs = walk.old.live.now.jobs }) (rows_made rows.now.change.now rows.now.rows.now.rows) rows.now.moment)) (slice_get (triples_in wants.now) index) ≡ Some result }
+        ensures live { walk.new.live ≡ walk.old.live }
+        ensures walked { option_map (λ t. key_rank t.op t.key walk.old.live.now.jobs) (slice_get (triples_in wants.now) index) ≡ Some walk.new.passed }
     {
-        let op = &self.program.ops.as_slice()[triple.op as usize];
-        is_target(wants, live, triple)
-            && !live.keeps(wants, triple)
-            && !has_valid_after(rows, change, op, triple, now)
+        is_open(wants, index, walk) && !self.has_valid(rows, &wants[index].0)
     }
 
     /// A job for a triple, with the hint of its order.
@@ -154,24 +164,24 @@ impl Jobs {
         })
     }
 
-    /// The jobs that are to be created, in order.
+    /// The jobs that are to be created, in order, found in one walk over the wanted triples and the
+    /// live jobs.
     fn news(
         &self,
         live: &LiveJobs,
         wants: &[(Triple, u64)],
-        rows: &Rows,
-        change: &RowChange,
-        now: u64,
+        rows: &RowsAfter<'_>,
     ) -> Result<ListOf<NewJob>, NoMemory>
         requires wants { AreWants (length self.now.work.program.ops) wants.now }
-        requires timely { PutsInTime change.now }
-        ensures triples { IfOk result (λ ns. triples_of ns ≡ fresh_of (triples_in wants.now) (core_of (record self.now.work { jobs = live.now.jobs }) (rows_made change.now rows.now.rows) now)) }
+        requires timely { PutsInTime rows.now.change.now }
+        ensures triples { IfOk result (λ ns. triples_of ns ≡ fresh_of (triples_in wants.now) (core_of (record self.now.work { jobs = live.now.jobs }) (rows_made rows.now.change.now rows.now.rows.now.rows) rows.now.moment)) }
         ensures hints { IfOk result (λ ns. AllByRecursion (HasHint self.now.work.program.ops) ns) }
     {
         let mut news = ListOf::new(self.alloc);
-        for want in wants {
-            if self.is_fresh(live, wants, rows, change, &want.0, now) {
-                news.push(self.new_job(&want.0)?)?;
+        let mut walk = LiveWalk::new(live);
+        for index in 0..wants.len() {
+            if self.is_fresh(wants, index, &mut walk, rows) {
+                news.push(self.new_job(&wants[index].0)?)?;
             }
         }
         Ok(news)
@@ -213,10 +223,22 @@ impl Jobs {
     {
         let _before = self.live.as_slice();
         let live = self.jobs_after(own, now)?;
-        let jobs = live.as_slice();
-        let drops = drops(self.alloc, wants, jobs)?;
-        let lost = lost(self.alloc, wants, self.program.ops.as_slice(), jobs)?;
-        let news = self.news(&live, wants, rows, change, now)?;
+        let _jobs = live.as_slice();
+        let Unwanted { drops, lost } = Unwanted::find(
+            self.alloc,
+            wants,
+            self.program.ops.as_slice(),
+            &live,
+        )?;
+        let news = self.news(
+            &live,
+            wants,
+            &RowsAfter {
+                rows,
+                change,
+                moment: now,
+            },
+        )?;
         let signals = with_mark(self.alloc, self.own_mark(own), lost.as_slice())?;
         if NUMBER_LIMIT - self.next < news.len() as u64 {
             return Err(SettleFault::NumbersUsed);
@@ -226,8 +248,8 @@ impl Jobs {
         Ok(JobsPlan {
             own: *own,
             moment: now,
-            drops,
-            lost,
+            drops: ListOf::from_vec(drops),
+            lost: ListOf::from_vec(lost),
             news,
             signals,
             next,
@@ -246,6 +268,7 @@ impl Jobs {
         requires time { now ≤ 2 ^ 60 }
         ensures settled { OnOk result (settle_for (triples_in wants.now) (core_of self.old.work rows.now.rows now) ≡ Some (core_of self.new.work rows.now.rows now)) }
         ensures signals { IfOk result (λ ns. ns ≡ newly_marked (triples_in wants.now) (core_of self.old.work rows.now.rows now)) }
+        ensures referred { OnOk result (AllByRecursion (IsReferredBy (triples_in wants.now) self.new.work.program) self.new.work.jobs) }
         ensures used { IsUsed result → settle_for (triples_in wants.now) (core_of self.old.work rows.now.rows now) ≡ None }
         ensures err { OnErr result (self.new ≡ self.old) }
     {
