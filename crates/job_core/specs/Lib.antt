@@ -9,5 +9,6 @@ pub mod Plans
 pub mod Wants
 pub mod Walks
 pub mod Rowing
+pub mod Settled
 pub mod RowTests
 pub mod Marking

@@ -7,8 +7,8 @@ ghost use Rattle.core_rules.specs.Core.{has_job, job_numbered, with_job, without
 ghost use Rattle.core_rules.specs.Entries.{job_of};
 ghost use Rattle.core_rules.specs.Laws.{JobsBelow, OneEach, Rising};
 ghost use Rattle.core_rules.specs.Settling.{live_on, on_key};
-ghost use Rattle.job_core.specs.Keys.{by_keys, is_found_before, is_key_before, key_cmp, key_rank, rank_found};
-ghost use Rattle.job_core.specs.Walks.{passes};
+ghost use Rattle.job_core.specs.Keys.{by_keys, is_number_before, key_cmp, key_rank, rank_found};
+ghost use Rattle.job_core.specs.Walks.{is_job_past};
 
 use crate::numbered::Numbered;
 use core_rules::{Job, Mark};
@@ -67,7 +67,7 @@ pub(crate) fn is_same(a: &Triple, b: &Triple) -> bool
 impl Numbered {
     /// Whether the job of a number has a lesser operation and key.
     fn comes_before(&self, number: u64, op: u32, key: &Text) -> bool
-        ensures { result ≡ is_found_before op key.now (job_numbered self.now.jobs number) }
+        ensures { result ≡ is_number_before op key.now self.now.jobs number }
     {
         match self.find(number) {
             Some(job) => key_order(&job.triple, op, key).is_lt(),
@@ -77,7 +77,7 @@ impl Numbered {
 }
 
 impl LiveJobs {
-    ghost use Rattle.job_core.specs.Live.{LiveState};
+    ghost use Rattle.job_core.specs.Live.{LiveState, added, confirmed, given, marked, removed};
 
     pub(crate) fn new(alloc: Global) -> LiveJobs
         ensures { result ≡ record { jobs = []; spare = 0 } }
@@ -105,7 +105,7 @@ impl LiveJobs {
         let jobs = &self.numbered;
         self.by_key.as_slice().partition_point(
             |number: &u64| -> bool
-                ensures { result ≡ is_found_before op key.entry.now (job_numbered jobs.entry.now.jobs number.now) }
+                ensures { result ≡ is_number_before op key.entry.now jobs.entry.now.jobs number.now }
             { jobs.comes_before(*number, op, key) },
         )
     }
@@ -177,7 +177,7 @@ impl LiveJobs {
         requires above { JobsBelow job.number self.old.jobs }
         requires free { live_on self.old.jobs job.triple.op job.triple.key ≡ None }
         requires room { 0 < self.old.spare }
-        ensures { self.new ≡ record { jobs = self.old.jobs ++ job ∷ []; spare = self.old.spare - 1 } }
+        ensures { self.new ≡ added job self.old }
     {
         let at = self.key_rank(job.triple.op, &job.triple.key);
         insert_within(&mut self.by_key, at, job.number);
@@ -200,7 +200,7 @@ impl LiveJobs {
     pub(crate) fn remove(&mut self, number: u64) -> Job
         requires { has_job self.old.jobs number ≡ true }
         ensures job { job_numbered self.old.jobs number ≡ Some result }
-        ensures left { self.new ≡ record self.old { jobs = without_job number self.old.jobs } }
+        ensures left { self.new ≡ removed number self.old }
         ensures rising { Rising self.old.jobs }
     {
         let at = self.key_rank_of(number);
@@ -211,7 +211,7 @@ impl LiveJobs {
     /// The job of a number may start.
     pub(crate) fn confirm(&mut self, number: u64)
         requires { has_job self.old.jobs number ≡ true }
-        ensures { self.new ≡ record self.old { jobs = with_job number (λ j. record j { confirmed = true }) self.old.jobs } }
+        ensures { self.new ≡ confirmed number self.old }
     {
         self.numbered.confirm(number);
     }
@@ -219,7 +219,7 @@ impl LiveJobs {
     /// The result of the job of a number is thrown away.
     pub(crate) fn mark(&mut self, number: u64, mark: Mark)
         requires { has_job self.old.jobs number ≡ true }
-        ensures { self.new ≡ record self.old { jobs = with_job number (λ j. record j { mark = mark }) self.old.jobs } }
+        ensures { self.new ≡ marked number mark self.old }
     {
         self.numbered.mark(number, mark);
     }
@@ -227,7 +227,7 @@ impl LiveJobs {
     /// A worker runs the job of a number.
     pub(crate) fn give(&mut self, number: u64, worker: u32)
         requires { has_job self.old.jobs number ≡ true }
-        ensures given { self.new ≡ record self.old { jobs = with_job number (λ j. record j { worker = Some worker }) self.old.jobs } }
+        ensures given { self.new ≡ given number worker self.old }
         ensures rising { Rising self.old.jobs }
     {
         self.numbered.give(number, worker);
@@ -273,7 +273,7 @@ impl<'a> LiveWalk<'a> {
 
     /// Whether the next job has a lesser operation and key.
     fn is_past(&self, op: u32, key: &Text) -> bool
-        ensures past { result ≡ passes (is_key_before op key.now) (slice_get (by_keys self.now.live.now.jobs) self.now.passed) }
+        ensures past { result ≡ is_job_past op key.now self.now.live.now.jobs self.now.passed }
         ensures few { length self.now.live.now.jobs < 2 ^ 64 }
     {
         match self.live.in_keys(self.passed) {

@@ -1,10 +1,9 @@
 //! What is wanted, and what follows for single jobs and triples.
-ghost use Rattle.std.specs.Prelude.{◌≡◌, ◌<◌, ◌≤◌, ◌++◌, [], ◌∷◌, length, slice_get, option_map, IfOk, OnOk, Some};
+ghost use Rattle.std.specs.Prelude.{◌≡◌, ◌<◌, ◌≤◌, length, IfOk, OnOk};
 ghost use Rattle.term_core.specs.Counts.{is_wanted};
 ghost use Rattle.value_core.specs.Orders.{triple_cmp};
-ghost use Rattle.job_core.specs.Keys.{key_rank};
-ghost use Rattle.job_core.specs.Wants.{TriplesRise, drops_of, is_open, lost_of, triples_in};
-ghost use Rattle.job_core.specs.Walks.{AreUnwanted, IsWalked, is_before, is_least, passes, wants_passed};
+ghost use Rattle.job_core.specs.Wants.{TriplesRise, triples_in};
+ghost use Rattle.job_core.specs.Walks.{AreUnwanted, IsLeastAt, IsNotPast, IsOpenAt, IsReached, is_want_past, wants_passed, with_drop, with_loss};
 
 use crate::jobs::op_at;
 use crate::live_jobs::{LiveJobs, LiveWalk, is_on, is_same};
@@ -40,7 +39,7 @@ struct WantsWalk<'a> {
 impl WantsWalk<'_> {
     /// Whether the next wanted triple comes before another.
     fn is_past(&self, triple: &Triple) -> bool
-        ensures { result ≡ passes (is_before triple.now) (slice_get (triples_in self.now.wants.now) self.now.passed) }
+        ensures { result ≡ is_want_past triple.now self.now }
     {
         self.passed < self.wants.len() && triple_order(&self.wants[self.passed].0, triple).is_lt()
     }
@@ -99,8 +98,8 @@ impl Unwanted {
 
     /// Takes note of a job to which nothing refers.
     fn add(&mut self, ops: &[OpDecl], job: &Job) -> Result<(), NoMemory>
-        ensures drops { OnOk result (self.new.drops.items ≡ self.old.drops.items ++ drops_of [] (job.now ∷ [])) }
-        ensures lost { OnOk result (self.new.lost.items ≡ self.old.lost.items ++ lost_of [] ops.now (job.now ∷ [])) }
+        ensures drops { OnOk result (self.new.drops.items ≡ with_drop job.now self.old) }
+        ensures lost { OnOk result (self.new.lost.items ≡ with_loss ops.now job.now self.old) }
     {
         if job.worker.is_none() {
             self.drops.push(job.number)?;
@@ -115,7 +114,7 @@ impl Unwanted {
 fn is_least(wants: &[(Triple, u64)], index: usize) -> bool
     requires rising { TriplesRise (triples_in wants.now) }
     requires within { index < length wants.now }
-    ensures { option_map (is_least (triples_in wants.now)) (slice_get (triples_in wants.now) index) ≡ Some result }
+    ensures { IsLeastAt wants.now index result }
 {
     let triple = &wants[index].0;
     index == 0 || !is_on(&wants[index - 1].0, triple.op, &triple.key)
@@ -126,10 +125,10 @@ fn is_least(wants: &[(Triple, u64)], index: usize) -> bool
 pub(crate) fn is_open(wants: &[(Triple, u64)], index: usize, walk: &mut LiveWalk<'_>) -> bool
     requires rising { TriplesRise (triples_in wants.now) }
     requires within { index < length wants.now }
-    requires later { IsWalked walk.old.live.now.jobs walk.old.passed (slice_get (triples_in wants.now) index) }
-    ensures opens { option_map (is_open (triples_in wants.now) walk.old.live.now.jobs) (slice_get (triples_in wants.now) index) ≡ Some result }
+    requires later { IsNotPast wants.now walk.old.live.now.jobs index walk.old.passed }
+    ensures opens { IsOpenAt wants.now walk.old.live.now.jobs index result }
     ensures live { walk.new.live ≡ walk.old.live }
-    ensures walked { option_map (λ t. key_rank t.op t.key walk.old.live.now.jobs) (slice_get (triples_in wants.now) index) ≡ Some walk.new.passed }
+    ensures walked { IsReached wants.now walk.old.live.now.jobs index walk.new.passed }
 {
     let triple = &wants[index].0;
     let job = walk.on(triple.op, &triple.key);

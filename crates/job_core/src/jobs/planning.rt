@@ -1,13 +1,9 @@
 //! Plans: what an own change and settling will make of the jobs, before anything changes.
-ghost use Rattle.std.specs.Prelude.{◌≡◌, ℕ, ◌^◌, ◌<◌, ◌≤◌, length, max, true, option_map, slice_get, IfOk, OnOk, OnErr, Some, None};
+ghost use Rattle.std.specs.Prelude.{◌≡◌, ℕ, ◌^◌, ◌<◌, ◌≤◌, length, max, true, IfOk, OnOk, OnErr};
 ghost use Rattle.std.specs.List.{AllByRecursion};
 ghost use Rattle.job_core.specs.Answers.{IsUsed};
 ghost use Rattle.core_rules.specs.Core.{has_job};
-ghost use Rattle.core_rules.specs.Laws.{IsReferredBy};
-ghost use Rattle.core_rules.specs.Parts.{core_of};
 ghost use Rattle.core_rules.specs.Replies.{with_numbers};
-ghost use Rattle.core_rules.specs.Entries.{row_of};
-ghost use Rattle.core_rules.specs.Settling.{is_valid, newly_marked, settle_for};
 ghost use Rattle.job_core.specs.Marking.{cancelled_jobs, listed};
 
 use super::Jobs;
@@ -63,19 +59,18 @@ fn with_mark(alloc: Global, mark: Option<u64>, numbers: &[u64]) -> Result<ListOf
 }
 
 impl Jobs {
-    ghost use Rattle.core_rules.specs.Own.{IsMade, own_change, tried_marks};
-    ghost use Rattle.job_core.specs.Own.{own_work};
-    ghost use Rattle.job_core.specs.Plans.{IsPlanFor, plan_next, plan_signals, planned, triples_of};
-    ghost use Rattle.core_rules.specs.Own.{PutsInTime, rows_made};
-    ghost use Rattle.job_core.specs.Rowing.{changed_core};
-    ghost use Rattle.job_core.specs.Keys.{key_rank};
+    ghost use Rattle.core_rules.specs.Own.{IsMade, PutsInTime, own_change};
+    ghost use Rattle.job_core.specs.Own.{own_marks, own_work};
+    ghost use Rattle.job_core.specs.Plans.{IsPlanFor};
+    ghost use Rattle.job_core.specs.Rowing.{core_after};
+    ghost use Rattle.job_core.specs.Settled.{IsPlan, IsUnsettled, NoPlan, Settles};
     ghost use Rattle.job_core.specs.State.{core_at};
-    ghost use Rattle.job_core.specs.Walks.{IsWalked};
-    ghost use Rattle.job_core.specs.Wants.{AreWants, HasHint, fresh_of, TriplesRise, is_fresh, triples_in};
+    ghost use Rattle.job_core.specs.Walks.{AreNews, IsFreshAt, IsNotPast, IsReached};
+    ghost use Rattle.job_core.specs.Wants.{AreWants, HasHint, has_valid};
 
     /// The job that an own change marks by itself.
     fn own_mark(&self, own: &Own) -> Option<u64>
-        ensures { (now : ℕ) → listed result ≡ tried_marks (own_change (core_at self.now.work now) own.now) }
+        ensures { (now : ℕ) → listed result ≡ own_marks own.now now self.now.work }
     {
         match own {
             Own::Cancel(job) => match self.live.find(*job) {
@@ -126,7 +121,7 @@ impl Jobs {
     fn has_valid(&self, rows: &RowsAfter<'_>, triple: &Triple) -> bool
         requires declared { triple.now.op < length self.now.work.program.ops }
         requires timely { PutsInTime rows.now.change.now }
-        ensures { result ≡ is_valid (core_of self.now.work (rows_made rows.now.change.now rows.now.rows.now.rows) rows.now.moment) (slice_get self.now.work.program.ops triple.now.op) (row_of (core_of self.now.work (rows_made rows.now.change.now rows.now.rows.now.rows) rows.now.moment) triple.now) }
+        ensures { result ≡ has_valid (core_after self.now rows.now) triple.now }
     {
         rows.has_valid(&self.program.ops.as_slice()[triple.op as usize], triple)
     }
@@ -142,10 +137,10 @@ impl Jobs {
         requires wants { AreWants (length self.now.work.program.ops) wants.now }
         requires within { index < length wants.now }
         requires timely { PutsInTime rows.now.change.now }
-        requires later { IsWalked walk.old.live.now.jobs walk.old.passed (slice_get (triples_in wants.now) index) }
-        ensures fresh { option_map (is_fresh (triples_in wants.now) (core_of (record self.now.work { jobs = walk.old.live.now.jobs }) (rows_made rows.now.change.now rows.now.rows.now.rows) rows.now.moment)) (slice_get (triples_in wants.now) index) ≡ Some result }
+        requires later { IsNotPast wants.now walk.old.live.now.jobs index walk.old.passed }
+        ensures fresh { IsFreshAt wants.now self.now walk.old.live.now.jobs rows.now index result }
         ensures live { walk.new.live ≡ walk.old.live }
-        ensures walked { option_map (λ t. key_rank t.op t.key walk.old.live.now.jobs) (slice_get (triples_in wants.now) index) ≡ Some walk.new.passed }
+        ensures walked { IsReached wants.now walk.old.live.now.jobs index walk.new.passed }
     {
         is_open(wants, index, walk) && !self.has_valid(rows, &wants[index].0)
     }
@@ -174,7 +169,7 @@ impl Jobs {
     ) -> Result<ListOf<NewJob>, NoMemory>
         requires wants { AreWants (length self.now.work.program.ops) wants.now }
         requires timely { PutsInTime rows.now.change.now }
-        ensures triples { IfOk result (λ ns. triples_of ns ≡ fresh_of (triples_in wants.now) (core_of (record self.now.work { jobs = live.now.jobs }) (rows_made rows.now.change.now rows.now.rows.now.rows) rows.now.moment)) }
+        ensures triples { IfOk result (AreNews wants.now self.now live.now.jobs rows.now) }
         ensures hints { IfOk result (λ ns. AllByRecursion (HasHint self.now.work.program.ops) ns) }
     {
         let mut news = ListOf::new(self.alloc);
@@ -211,12 +206,9 @@ impl Jobs {
         requires wants { AreWants (length self.old.work.program.ops) wants.now }
         requires timely { PutsInTime change.now }
         requires time { now ≤ 2 ^ 60 }
-        ensures settled { IfOk result (λ p. settle_for (triples_in wants.now) (changed_core own.now change.now self.old.work rows.now.rows now) ≡ Some (core_of (planned p self.old.work) (rows_made change.now rows.now.rows) now)) }
-        ensures referred { IfOk result (λ p. AllByRecursion (IsReferredBy (triples_in wants.now) (planned p self.old.work).program) (planned p self.old.work).jobs) }
-        ensures signals { IfOk result (λ p. plan_signals p ≡ with_numbers (tried_marks (own_change (core_at self.old.work now) own.now)) (newly_marked (triples_in wants.now) (changed_core own.now change.now self.old.work rows.now.rows now))) }
-        ensures next { IfOk result (λ p. plan_next p ≡ (planned p self.old.work).next) }
+        ensures plan { IfOk result (IsPlan wants.now own.now change.now rows.now now self.old) }
         ensures fits { IfOk result (λ p. IsPlanFor p self.new) }
-        ensures used { IsUsed result → settle_for (triples_in wants.now) (changed_core own.now change.now self.old.work rows.now.rows now) ≡ None }
+        ensures used { IsUsed result → NoPlan wants.now own.now change.now rows.now now self.old }
         ensures jobs { self.new.work ≡ self.old.work }
         ensures room { self.old.spare ≤ self.new.spare }
         ensures err { OnErr result (self.new ≡ self.old) }
@@ -266,10 +258,8 @@ impl Jobs {
     ) -> Result<ListOf<u64>, SettleFault>
         requires wants { AreWants (length self.old.work.program.ops) wants.now }
         requires time { now ≤ 2 ^ 60 }
-        ensures settled { OnOk result (settle_for (triples_in wants.now) (core_of self.old.work rows.now.rows now) ≡ Some (core_of self.new.work rows.now.rows now)) }
-        ensures signals { IfOk result (λ ns. ns ≡ newly_marked (triples_in wants.now) (core_of self.old.work rows.now.rows now)) }
-        ensures referred { OnOk result (AllByRecursion (IsReferredBy (triples_in wants.now) self.new.work.program) self.new.work.jobs) }
-        ensures used { IsUsed result → settle_for (triples_in wants.now) (core_of self.old.work rows.now.rows now) ≡ None }
+        ensures settled { IfOk result (Settles wants.now rows.now now self.old self.new) }
+        ensures used { IsUsed result → IsUnsettled wants.now rows.now now self.old }
         ensures err { OnErr result (self.new ≡ self.old) }
     {
         let plan = self.plan(&Own::None, wants, rows, &RowChange::None, now)?;

@@ -47,52 +47,27 @@ returns-then-self-len-clause-used c = λ _.
     let l : 2 ^ 62 < w.next + length c.in_ok-news.news = omega (arith, c.len.ensures, c.if-self-len.true) in
     found_none ws c.args.own.now w rows c.args.now js c.in_ok-drops.field-0.drops.items c.in_ok-drops.field-0.lost.items c.in_ok-news.news f l
 
-pub returns-clause-settled : goal.returns-clause-settled
-returns-clause-settled c =
+pub returns-clause-plan : goal.returns-clause-plan
+returns-clause-plan c =
     let w = c.args.self.now.work in
     let ws = triples_in c.args.wants.now in
     let rows = rows_made c.args.change.now c.args.rows.now.rows in
     let js = c.in_ok-live.live.jobs in
-    let f = found (goal.at.returns-clause-settled c).After-len in
+    let drops = c.in_ok-drops.field-0.drops.items in
+    let lost = c.in_ok-drops.field-0.lost.items in
+    let news = c.in_ok-news.news in
+    let f = found (goal.at.returns-clause-plan c).After-len in
     let number : c.self.inside.next ≡ w.next = ap (λ s. s.work.next) c.self.view_is in
     let most = f.few in
-    let l : w.next + length c.in_ok-news.news ≤ 2 ^ 62 = omega (arith, c.len.ensures, c.if-self-len.false) in
-    rw (c.from_vec.ensures, c.from_vec-2.ensures) (found_settled ws c.args.own.now w rows c.args.now js c.in_ok-drops.field-0.drops.items c.in_ok-drops.field-0.lost.items c.in_ok-news.news f l)
-
-pub returns-clause-referred : goal.returns-clause-referred
-returns-clause-referred c =
-    let w = c.args.self.now.work in
-    let ws = triples_in c.args.wants.now in
-    let rows = rows_made c.args.change.now c.args.rows.now.rows in
-    let js = c.in_ok-live.live.jobs in
-    let f = found (goal.at.returns-clause-referred c).After-len in
-    let number : c.self.inside.next ≡ w.next = ap (λ s. s.work.next) c.self.view_is in
-    let most = f.few in
-    let l : w.next + length c.in_ok-news.news ≤ 2 ^ 62 = omega (arith, c.len.ensures, c.if-self-len.false) in
-    rw (c.from_vec.ensures, c.from_vec-2.ensures) (settling_refers ws (core_of (own_work c.args.own.now c.args.now w) rows c.args.now) _ (found_settled ws c.args.own.now w rows c.args.now js c.in_ok-drops.field-0.drops.items c.in_ok-drops.field-0.lost.items c.in_ok-news.news f l))
-
-pub returns-clause-signals : goal.returns-clause-signals
-returns-clause-signals c =
-    let w = c.args.self.now.work in
-    let ws = triples_in c.args.wants.now in
-    let rows = rows_made c.args.change.now c.args.rows.now.rows in
-    let js = c.in_ok-live.live.jobs in
-    let f = found (goal.at.returns-clause-signals c).After-len in
-    let number : c.self.inside.next ≡ w.next = ap (λ s. s.work.next) c.self.view_is in
-    let most = f.few in
-    c.in_ok-signals.ensures ∙ (λ i. with_numbers (c.own_mark.ensures c.args.now i) ((c.as_slice-2.ensures.value ∙ lost_after ws c.args.own.now w rows c.args.now js c.in_ok-drops.field-0.drops.items c.in_ok-drops.field-0.lost.items c.in_ok-news.news f) i))
-
-pub returns-clause-next : goal.returns-clause-next
-returns-clause-next c =
-    let w = c.args.self.now.work in
-    let ws = triples_in c.args.wants.now in
-    let rows = rows_made c.args.change.now c.args.rows.now.rows in
-    let js = c.in_ok-live.live.jobs in
-    let f = found (goal.at.returns-clause-next c).After-len in
-    let number : c.self.inside.next ≡ w.next = ap (λ s. s.work.next) c.self.view_is in
-    let most = f.few in
-    let n = found_next ws c.args.own.now w rows c.args.now js c.in_ok-drops.field-0.drops.items c.in_ok-drops.field-0.lost.items c.in_ok-news.news f in
-    rw (c.from_vec.ensures, c.from_vec-2.ensures) (omega (arith, c.len-2.ensures))
+    let l : w.next + length news ≤ 2 ^ 62 = omega (arith, c.len.ensures, c.if-self-len.false) in
+    let settled = found_settled ws c.args.own.now w rows c.args.now js drops lost news f l in
+    let n = found_next ws c.args.own.now w rows c.args.now js drops lost news f in
+    rw (c.from_vec.ensures, c.from_vec-2.ensures) (record {
+      settled = settled;
+      referred = settling_refers ws (core_of (own_work c.args.own.now c.args.now w) rows c.args.now) _ settled;
+      signals = c.in_ok-signals.ensures ∙ (λ i. with_numbers (c.own_mark.ensures c.args.now i) ((c.as_slice-2.ensures.value ∙ lost_after ws c.args.own.now w rows c.args.now js drops lost news f) i));
+      next = omega (arith, c.len-2.ensures);
+    })
 
 pub returns-clause-fits : goal.returns-clause-fits
 returns-clause-fits c =
