@@ -22,6 +22,7 @@ use Rattle.core_rules.specs.declared.jobs.Job.{Job}
 use Rattle.job_core.specs.Plans.{created_all, created_work}
 use Rattle.job_core.specs.Wants.{TriplesRise}
 use Rattle.job_core.proofs.Dropping.{filter_same}
+use Rattle.core_rules.proofs.Live.{on_key_back}
 
 -- ---- triples of different operations or keys
 
@@ -33,12 +34,6 @@ KeysApart (t ∷ ts) = AllByRecursion (λ u. on_key t.op t.key u ≡ false) ts �
 pub apart_filter : (q : Triple → Bool) (ts : List Triple) → KeysApart ts → KeysApart (filter q ts)
 apart_filter q [] a = tt
 apart_filter q (t ∷ ts) a = cond_both (q t) (t ∷ filter q ts) (filter q ts) KeysApart (λ _. (all_filter (λ u. on_key t.op t.key u ≡ false) q ts a.0, apart_filter q ts a.1)) (λ _. apart_filter q ts a.1)
-
-key_flip : (t u : Triple) → on_key u.op u.key t ≡ false → on_key t.op t.key u ≡ false
-key_flip t u e = false_from_ne_true (on_key t.op t.key u) (λ h.
-    let k = and_parts (u.op == t.op) (bytes_eq u.key t.key) h in
-    both_ways (on_key u.op u.key t) e (and_from (t.op == u.op) (bytes_eq t.key u.key)
-    (eq-eqb t.op u.op (sym (eqb-true u.op t.op k.0))) (bytes_itself t.key u.key (sym (bytes_same u.key t.key k.1)))))
 
 itself : (t : Triple) → triple_cmp t t ≡ Equal
 itself t =
@@ -89,7 +84,7 @@ live_push [] x op key e = ap (λ b. cond b (Some x) None) e
 live_push (j ∷ js) x op key e = ap (cond (on_key op key j.triple) (Some j)) (live_push js x op key e)
 
 pub live_later : (now : ℕ) (w : Work) (t u : Triple) → on_key t.op t.key u ≡ false → live_on (created_work now t w).jobs u.op u.key ≡ live_on w.jobs u.op u.key
-live_later now w t u e = live_push w.jobs (new_job w.next t) u.op u.key (key_flip u t e)
+live_later now w t u e = live_push w.jobs (new_job w.next t) u.op u.key (on_key_back u t e)
 
 module _ (rows : Rows) (now : ℕ) where
   served_later : (w : Work) (t u : Triple) → on_key t.op t.key u ≡ false → is_served (core_of (created_work now t w) rows now) u ≡ is_served (core_of w rows now) u

@@ -27,6 +27,7 @@ use Rattle.core_rules.specs.declared.jobs.Mark.TheVariants.{Unmarked}
 use Rattle.job_core.specs.Keys.{by_keys, is_found_before, is_key_before, key_before, key_cmp, key_rank}
 use Rattle.job_core.proofs.Places.{above_has, above_stays, has_found}
 use Rattle.job_core.proofs.StageAfter.{none_of}
+use Rattle.core_rules.proofs.Parts.{among}
 
 -- ---- the order
 

@@ -22,4 +22,7 @@ pub mod StageAfter
 pub mod Staged
 pub mod Keys
 pub mod Wanted
+pub mod Walks
+pub mod SortedNumbers
+pub mod Merging
 pub mod KeptKeys

@@ -13,6 +13,7 @@ use Rattle.std.specs.Cmp.Lexicographic.{nat_list_cmp_total}
 use Rattle.value_core.specs.declared.state.Triple.{Triple}
 use Rattle.value_core.specs.Orders.{same_triple}
 use Rattle.value_core.specs.Orders.{bytes_cmp}
+use Rattle.value_core.proofs.Basics.{triples_tie}
 use Rattle.fair_pool.specs.Order.{leading, IsInOrder, Rises}
 use Rattle.fair_pool.proofs.Ordered.{IsBefore, IsInOrder-Rises, all_since, parted}
 use Rattle.core_rules.proofs.Helpers.{triple_itself, triple_same}
@@ -34,13 +35,6 @@ triple_before a b = is_lt (triple_cmp a b)
 pub triple_before_order : IsBefore triple_before
 triple_before_order = record { asym = λ a b. before_asym triples_total a b; upto = λ a b c. before_upto triples_total a b c }
 
-pub rises : (ts : List Triple) → TriplesRise ts → Rises triple_before ts
-rises [] r = tt
-rises (t ∷ ts) r = (all_since (λ u. triple_cmp t u ≡ Less) (λ u. triple_before t u ≡ true) (λ u e. ap is_lt e) ts r.0, rises ts r.1)
-
-pub triples_parted : (t : Triple) (ts : List Triple) → TriplesRise ts → IsPartitionedBy (λ u. triple_before u t) ts
-triples_parted t ts r = parted triple_before triple_before_order t ts (IsInOrder-Rises triple_before triple_before_order ts (rises ts r))
-
 -- ---- where a triple is found
 
 lt_suc : (a b : ℕ) → nat_lt (suc a) (suc b) ≡ nat_lt a b
@@ -60,19 +54,6 @@ same_not_less u t e = false_from_ne_true (same_triple u t) (λ h.
 or_none : (b : Bool) → (b || false) ≡ b
 or_none true = refl
 or_none false = refl
-
-triples_tie : (t u : Triple) → triple_cmp t u ≡ Equal → t ≡ u
-triples_tie t u e =
-    let a = nat_cmp t.op u.op in
-    let b = bytes_cmp t.key u.key in
-    let c = bytes_cmp t.value u.value in
-    let h = and_parts (is_eq a) (is_eq (ordering_then b c)) (tied_then a (ordering_then b c) ∙ ap is_eq e) in
-    let k = and_parts (is_eq b) (is_eq c) (tied_then b c ∙ h.1) in
-    let p = nat_cmp-IsAntisymmetric t.op u.op ((Equal-is a).0 h.0) in
-    let same = slice_cmp-IsAntisymmetric nat_cmp-IsAntisymmetric in
-    let q = same t.key u.key ((Equal-is b).0 k.0) in
-    let r = same t.value u.value ((Equal-is c).0 k.1) in
-    λ i. record { op = p i; key = q i; value = r i }
 
 none_wanted : (u t : Triple) (us : List Triple) → triple_cmp u t ≡ Greater → AllByRecursion (λ v. triple_cmp u v ≡ Less) us → is_wanted us t ≡ false
 none_wanted u t [] e a = refl
@@ -101,26 +82,13 @@ then_grouped Equal b c = refl
 then_grouped Greater b c = refl
 
 -- how triples compare by their keys first
-by_key : (u v : Triple) → triple_cmp u v ≡ ordering_then (key_cmp u v.op v.key) (bytes_cmp u.value v.value)
+pub by_key : (u v : Triple) → triple_cmp u v ≡ ordering_then (key_cmp u v.op v.key) (bytes_cmp u.value v.value)
 by_key u v = then_grouped (nat_cmp u.op v.op) (bytes_cmp u.key v.key) (bytes_cmp u.value v.value)
 
-on_tie : (t : Triple) (op : ℕ) (key : List ℕ) → on_key op key t ≡ true → key_cmp t op key ≡ Equal
+pub on_tie : (t : Triple) (op : ℕ) (key : List ℕ) → on_key op key t ≡ true → key_cmp t op key ≡ Equal
 on_tie t op key e = let p = on_parts t op key e in (λ i. key_cmp t (sym p.0 i) (sym p.1 i)) ∙ tied_itself keys_total t
 
-not_on : (t : Triple) (op : ℕ) (key : List ℕ) (o : Ordering) → key_cmp t op key ≡ o → (o ≡ Equal → ⊥) → on_key op key t ≡ false
-not_on t op key o e d = false_from_ne_true (on_key op key t) (λ h. d (sym e ∙ on_tie t op key h))
-
-none_on : (u : Triple) (op : ℕ) (key : List ℕ) (us : List Triple) → key_cmp u op key ≡ Greater → AllByRecursion (λ v. triple_cmp u v ≡ Less) us → values_on us op key ≡ []
-none_on u op key [] e a = refl
-none_on u op key (v ∷ us) e a =
-    let no : on_key op key v ≡ false = false_from_ne_true (on_key op key v) (λ h.
-    let p = on_parts v op key h in
-    let k : key_cmp u v.op v.key ≡ Greater = (λ i. key_cmp u (p.0 i) (p.1 i)) ∙ e in
-    let l : Greater ≡ Less = sym (ap (λ o. ordering_then o (bytes_cmp u.value v.value)) k) ∙ sym (by_key u v) ∙ a.0 in
-    let z : ⊥ = cc in z) in
-    ap (λ b. map (λ t. t.value) (cond b (v ∷ filter (on_key op key) us) (filter (on_key op key) us))) no ∙ none_on u op key us e a.1
-
-least_stays : (u : Triple) (op : ℕ) (key : List ℕ) (us : List Triple) → on_key op key u ≡ true → AllByRecursion (λ v. triple_cmp u v ≡ Less) us → least_text u.value (values_on us op key) ≡ u.value
+pub least_stays : (u : Triple) (op : ℕ) (key : List ℕ) (us : List Triple) → on_key op key u ≡ true → AllByRecursion (λ v. triple_cmp u v ≡ Less) us → least_text u.value (values_on us op key) ≡ u.value
 least_stays u op key [] h a = refl
 least_stays u op key (v ∷ us) h a = elim (on_key op key v) as (λ b. on_key op key v ≡ b → least_text u.value (map (λ t. t.value) (cond b (v ∷ filter (on_key op key) us) (filter (on_key op key) us))) ≡ u.value) [
   | true ↦ λ e.
@@ -133,31 +101,12 @@ least_stays u op key (v ∷ us) h a = elim (on_key op key v) as (λ b. on_key op
   | false ↦ λ e. least_stays u op key us h a.1
 ] refl
 
-pub least_rank : (ts : List Triple) (op : ℕ) (key : List ℕ) (d : Triple) → TriplesRise ts →
-    least_value (values_on ts op key) ≡ (if nat_lt (leading (is_key_below op key) ts) (length ts) && on_key op key (get_or ts (leading (is_key_below op key) ts) d) then Some (get_or ts (leading (is_key_below op key) ts) d).value else None)
-least_rank [] op key d r = refl
-least_rank (u ∷ us) op key d r = elim (key_cmp u op key) as (λ o. key_cmp u op key ≡ o →
-    least_value (values_on (u ∷ us) op key) ≡ (let n = cond (is_lt o) (suc (leading (is_key_below op key) us)) zero in
-    if nat_lt n (suc (length us)) && on_key op key (get_or (u ∷ us) n d) then Some (get_or (u ∷ us) n d).value else None)) [
-      | Less ↦ λ e. ap (λ b. least_value (map (λ t. t.value) (cond b (u ∷ filter (on_key op key) us) (filter (on_key op key) us)))) (not_on u op key Less e (λ h. let z : ⊥ = cc in z)) ∙ least_rank us op key d r.1
-          ∙ ap (λ b. if b && on_key op key (get_or us (leading (is_key_below op key) us) d) then Some (get_or us (leading (is_key_below op key) us) d).value else None) (sym (lt_suc (leading (is_key_below op key) us) (length us)))
-      | Equal ↦ λ e.
-          let p = tie_on u op key e in
-          let h = on_same u op key p.0 p.1 in
-          ap (λ b. least_value (map (λ t. t.value) (cond b (u ∷ filter (on_key op key) us) (filter (on_key op key) us)))) h
-          ∙ ap Some (least_stays u op key us h r.0) ∙ sym (ap (λ b. if b then Some u.value else None) (ap (λ b. b && on_key op key u) (lt_first (length us)) ∙ h))
-      | Greater ↦ λ e.
-          let h = not_on u op key Greater e (λ h. let z : ⊥ = cc in z) in
-          ap (λ b. least_value (map (λ t. t.value) (cond b (u ∷ filter (on_key op key) us) (filter (on_key op key) us)))) h
-          ∙ ap least_value (none_on u op key us e r.0) ∙ sym (ap (λ b. if b then Some u.value else None) (ap (λ b. b && on_key op key u) (lt_first (length us)) ∙ h))
-    ] refl
-
 -- ---- the order of operations and keys
 
 abbrev pub keys_before : Triple → Triple → Bool
 keys_before a b = is_lt (keys_cmp a b)
 
-keys_before_order : IsBefore keys_before
+pub keys_before_order : IsBefore keys_before
 keys_before_order = record { asym = λ a b. before_asym keys_total a b; upto = λ a b c. before_upto keys_total a b c }
 
 not_above : (o c : Ordering) → ordering_then o c ≡ Less → is_gt o ≡ false
@@ -165,19 +114,12 @@ not_above Less c e = refl
 not_above Equal c e = refl
 not_above Greater c e = let z : ⊥ = cc in absurd z
 
-keys_in_order : (ts : List Triple) → TriplesRise ts → IsInOrder keys_before ts
+pub keys_in_order : (ts : List Triple) → TriplesRise ts → IsInOrder keys_before ts
 keys_in_order [] r = tt
 keys_in_order (t ∷ ts) r =
     (all_since (λ u. triple_cmp t u ≡ Less) (λ u. keys_before u t ≡ false) (λ u e. sym (above_is keys_total t u) ∙ not_above (key_cmp t u.op u.key) (bytes_cmp t.value u.value) (sym (by_key t u) ∙ e)) ts r.0, keys_in_order ts r.1)
 
-pub wanted_keys_parted : (op : ℕ) (key : List ℕ) (ts : List Triple) → TriplesRise ts → IsPartitionedBy (is_key_below op key) ts
-wanted_keys_parted op key ts r = parted keys_before keys_before_order (record { op = op; key = key; value = [] }) ts (keys_in_order ts r)
-
 -- ---- triples with their counts
-
-pub of_firsts : (q : Triple → Bool) (ws : List (Triple × ℕ)) → leading (λ (w : Triple × ℕ). q w.0) ws ≡ leading q (map (λ w. w.0) ws)
-of_firsts q [] = refl
-of_firsts q (w ∷ ws) = ap (λ n. cond (q w.0) (suc n) zero) (of_firsts q ws)
 
 first_at : (ws : List (Triple × ℕ)) (i : ℕ) (d : Triple × ℕ) → i < length ws → (get_or ws i d).0 ≡ get_or (map (λ w. w.0) ws) i d.0
 first_at [] i d l = absurd (omega arith)
@@ -187,10 +129,6 @@ first_at (w ∷ ws) (suc i) d l = first_at ws i d (omega arith)
 firsts_length : (ws : List (Triple × ℕ)) → length (map (λ w. w.0) ws) ≡ length ws
 firsts_length [] = refl
 firsts_length (w ∷ ws) = ap suc (firsts_length ws)
-
-pub parted_firsts : (q : Triple → Bool) (ws : List (Triple × ℕ)) → IsPartitionedBy q (map (λ w. w.0) ws) → IsPartitionedBy (λ (w : Triple × ℕ). q w.0) ws
-parted_firsts q ws h i j d l m e =
-    ap q (first_at ws i d (omega arith)) ∙ h i j d.0 l (omega (arith, firsts_length ws)) (sym (ap q (first_at ws j d m)) ∙ e)
 
 -- what a test of the triple at the rank tells
 pub wanted_here : (ws : List (Triple × ℕ)) (t : Triple) (at : ℕ) (w : Triple × ℕ) → TriplesRise (map (λ w. w.0) ws) → at ≡ leading (λ u. triple_before u t) (map (λ w. w.0) ws) → at < length ws → w ≡ get_or ws at w →
@@ -207,25 +145,3 @@ wanted_past ws t at r e l =
     let ts = map (λ w. w.0) ws in
     sym (wanted_rank ts t t r ∙ ap (λ n. nat_lt n (length ts) && same_triple (get_or ts n t) t) (sym e)
     ∙ ap (λ b. b && same_triple (get_or ts at t) t) (le-ltb at (length ts) (omega (arith, firsts_length ws))))
-
--- the least value, by the triple at the rank of the key
-pub least_here : (ws : List (Triple × ℕ)) (op : ℕ) (key : List ℕ) (at : ℕ) (w : Triple × ℕ) → TriplesRise (map (λ w. w.0) ws) → at ≡ leading (is_key_below op key) (map (λ w. w.0) ws) → at < length ws → w ≡ get_or ws at w →
-    (if on_key op key w.0 then Some w.0.value else None) ≡ least_value (values_on (map (λ w. w.0) ws) op key)
-least_here ws op key at w r e l g =
-    let ts = map (λ w. w.0) ws in
-    let here : get_or ts at w.0 ≡ w.0 = sym (first_at ws at w l) ∙ sym (ap (λ x. x.0) g) in
-    let within : nat_lt at (length ts) ≡ true = lt-ltb at (length ts) (omega (arith, firsts_length ws)) in
-    sym (least_rank ts op key w.0 r ∙ ap (λ n. if nat_lt n (length ts) && on_key op key (get_or ts n w.0) then Some (get_or ts n w.0).value else None) (sym e)
-    ∙ ap (λ b. if b && on_key op key (get_or ts at w.0) then Some (get_or ts at w.0).value else None) within
-    ∙ ap (λ u. if on_key op key u then Some u.value else None) here)
-
-pub least_past : (ws : List (Triple × ℕ)) (op : ℕ) (key : List ℕ) (at : ℕ) (d : Triple) → TriplesRise (map (λ w. w.0) ws) → at ≡ leading (is_key_below op key) (map (λ w. w.0) ws) → length ws ≤ at →
-    None ≡ least_value (values_on (map (λ w. w.0) ws) op key)
-least_past ws op key at d r e l =
-    let ts = map (λ w. w.0) ws in
-    sym (least_rank ts op key d r ∙ ap (λ n. if nat_lt n (length ts) && on_key op key (get_or ts n d) then Some (get_or ts n d).value else None) (sym e)
-    ∙ ap (λ b. if b && on_key op key (get_or ts at d) then Some (get_or ts at d).value else None) (le-ltb at (length ts) (omega (arith, firsts_length ws))))
-
--- any triple
-abbrev pub a_triple : Triple
-a_triple = record { op = 0; key = []; value = [] }

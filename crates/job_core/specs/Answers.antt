@@ -1,9 +1,12 @@
 -- What the calls answer.
-use Rattle.std.specs.Prelude.{Option, Some, None, Result, Ok, Err, is_some, if◌then◌else◌}
-use Rattle.core_rules.specs.Changes.{Tried, Refuses, Idles, Makes}
+use Rattle.std.specs.Prelude.{ℕ, Option, Some, None, Result, Ok, Err, is_some, if◌then◌else◌}
+use Rattle.core_rules.specs.Changes.{Tried, Refuses, Idles, Makes, confirm}
+use Rattle.core_rules.specs.Core.{job_numbered}
+use Rattle.core_rules.specs.Parts.{Work}
 use Rattle.core_rules.specs.Settling.{is_unmarked}
 use Rattle.core_rules.specs.declared.events.Refusal.TheVariants as refusal
 use Rattle.core_rules.specs.declared.jobs.Job.{Job}
+use Rattle.job_core.specs.State.{bare}
 use Rattle.job_core.specs.declared.answers.Cancelled.{Cancelled}
 use Rattle.job_core.specs.declared.answers.Cancelled.TheVariants as cancelled
 use Rattle.job_core.specs.declared.answers.JobFault.{JobFault}
@@ -17,6 +20,10 @@ confirm_fault (Refuses (refusal.NotWaiting g)) = Some (fault.NotWaiting g)
 confirm_fault (Refuses r) = Some fault.UnknownJob
 confirm_fault (Makes c) = None
 confirm_fault (Idles n) = None
+
+-- the same for the job of a number, where there is a reason
+abbrev pub confirming_fault : Work → ℕ → Option JobFault
+confirming_fault w n = confirm_fault (confirm (bare w) (job_numbered w.jobs n))
 
 -- what a cancelled job becomes: a queued one goes, a running one is marked, unless it has a mark
 abbrev pub cancel_answer : Option Job → Result Cancelled JobFault

@@ -5,6 +5,7 @@ use Rattle.std.specs.Ordering.{is_lt, nat_cmp, ordering_then}
 use Rattle.value_core.specs.declared.state.Triple.{Triple}
 use Rattle.value_core.specs.Orders.{bytes_cmp}
 use Rattle.fair_pool.specs.Order.{in_order, leading}
+use Rattle.core_rules.specs.Core.{job_numbered}
 use Rattle.core_rules.specs.declared.jobs.Job.{Job}
 use Rattle.job_core.specs.Live.{AreLiveKept}
 
@@ -24,6 +25,10 @@ is_key_before op key j = is_key_below op key j.triple
 abbrev pub is_found_before : ℕ → List ℕ → Option Job → Bool
 is_found_before op key (Some j) = is_key_before op key j
 is_found_before op key None = false
+
+-- whether the job of a number is there and has
+abbrev pub is_number_before : ℕ → List ℕ → List Job → ℕ → Bool
+is_number_before op key js n = is_found_before op key (job_numbered js n)
 
 -- whether a job's operation and key come before another's
 abbrev pub key_before : Job → Job → Bool

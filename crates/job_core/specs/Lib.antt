@@ -7,6 +7,8 @@ pub mod Single
 pub mod Stages
 pub mod Plans
 pub mod Wants
+pub mod Walks
 pub mod Rowing
+pub mod Settled
 pub mod RowTests
 pub mod Marking

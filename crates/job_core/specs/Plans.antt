@@ -1,5 +1,5 @@
 -- What a plan holds, and what it makes of the jobs.
-use Rattle.std.specs.Prelude.{◌≡◌, ℕ, ◌^◌, ◌<◌, ◌≤◌, true, List, [], ◌∷◌, length, Some, None, slice_get, map}
+use Rattle.std.specs.Prelude.{◌≡◌, ℕ, ◌-◌, ◌^◌, ◌<◌, ◌≤◌, true, List, [], ◌∷◌, length, Some, None, slice_get, map}
 use Rattle.value_core.specs.declared.state.Triple.{Triple}
 use Rattle.op_keys.specs.declared.declarations.OpDecl.{OpDecl}
 use Rattle.core_rules.specs.Core.{has_job, with_job}
@@ -65,6 +65,16 @@ CanCreate now (n ∷ ns) w = CanCreateOne n w × CanCreate now ns (created_work 
 -- the triples of new jobs
 abbrev pub triples_of : List NewJob → List Triple
 triples_of ns = map (λ n. n.triple) ns
+
+-- ---- what is shown
+
+-- the jobs with one that is created
+abbrev pub with_created : ℕ → Triple → JobsState → JobsState
+with_created now t s = record { work = created_work now t s.work; spare = s.spare - 1 }
+
+-- the jobs with new ones, created in order
+abbrev pub with_news : ℕ → List NewJob → JobsState → JobsState
+with_news now ns s = record { work = created_all now (triples_of ns) s.work; spare = s.spare - length ns }
 
 -- ---- plans
 

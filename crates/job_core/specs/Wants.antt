@@ -44,9 +44,17 @@ abbrev pub stays_found : List Triple → Option Job → Bool
 stays_found ws (Some j) = stays ws j
 stays_found ws None = false
 
--- whether a wanted triple gets a job: it is a target, no live job of its operation and key stays, and it has no valid row
+-- whether a triple is the target of its operation and key, and no live job there stays
+abbrev pub is_open : List Triple → List Job → Triple → Bool
+is_open ws js t = is_value (target ws js t.op t.key) t.value && not (stays_found ws (live_on js t.op t.key))
+
+-- whether a triple has a valid row
+abbrev pub has_valid : CoreState → Triple → Bool
+has_valid s t = is_valid s (op_of s t.op) (row_of s t)
+
+-- whether a wanted triple gets a job: it is such a target, and has no valid row
 abbrev pub is_fresh : List Triple → CoreState → Triple → Bool
-is_fresh ws s t = is_value (target ws s.jobs t.op t.key) t.value && (not (stays_found ws (live_on s.jobs t.op t.key)) && not (is_valid s (op_of s t.op) (row_of s t)))
+is_fresh ws s t = is_open ws s.jobs t && not (has_valid s t)
 
 -- the triples that get jobs, in order
 abbrev pub fresh_of : List Triple → CoreState → List Triple

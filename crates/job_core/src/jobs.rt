@@ -61,7 +61,7 @@ pub(crate) fn op_at(ops: &[OpDecl], op: u32) -> Option<&OpDecl>
 }
 
 impl Jobs {
-    ghost use Rattle.job_core.specs.State.{JobsState, bare};
+    ghost use Rattle.job_core.specs.State.{JobsState, bare, jobs_opened};
     ghost use Rattle.job_core.specs.Own.{stage_in};
 
     /// No job yet, for a sound program and pools that were just opened from its declarations; the
@@ -77,7 +77,7 @@ impl Jobs {
         requires pools { pools ≡ opened (layout_of program.now) }
         requires some_next { 1 ≤ next }
         requires next { next ≤ 2 ^ 62 }
-        ensures { IfOk result (λ j. j ≡ record { work = record { program = program.now; threshold = threshold; next = next; jobs = []; fair = (opened (layout_of program.now)).fair }; spare = 0 }) }
+        ensures { IfOk result (λ j. j ≡ jobs_opened program.now threshold next) }
     {
         Ok(Jobs {
             alloc,

@@ -1,5 +1,5 @@
 //! Live jobs, found by their numbers and by their operations and keys.
-ghost use Rattle.std.specs.Prelude.{◌≡◌, ◌-◌, ◌<◌, ◌≤◌, [], ◌∷◌, ◌++◌, true, max, vec_len, insert, IfOk, OnOk, OnErr, Some, None};
+ghost use Rattle.std.specs.Prelude.{◌≡◌, ◌-◌, ◌^◌, ◌<◌, ◌≤◌, [], ◌∷◌, ◌++◌, true, length, max, slice_get, vec_len, insert, IfOk, OnOk, OnErr, Some, None};
 ghost use Rattle.std.specs.Option.{option_copied};
 ghost use Rattle.std.specs.Vec.{vec_capacity};
 ghost use Rattle.value_core.specs.Orders.{same_triple};
@@ -7,7 +7,8 @@ ghost use Rattle.core_rules.specs.Core.{has_job, job_numbered, with_job, without
 ghost use Rattle.core_rules.specs.Entries.{job_of};
 ghost use Rattle.core_rules.specs.Laws.{JobsBelow, OneEach, Rising};
 ghost use Rattle.core_rules.specs.Settling.{live_on, on_key};
-ghost use Rattle.job_core.specs.Keys.{is_found_before, key_cmp, key_rank, rank_found};
+ghost use Rattle.job_core.specs.Keys.{by_keys, is_number_before, key_cmp, key_rank, rank_found};
+ghost use Rattle.job_core.specs.Walks.{is_job_past};
 
 use crate::numbered::Numbered;
 use core_rules::{Job, Mark};
@@ -66,7 +67,7 @@ pub(crate) fn is_same(a: &Triple, b: &Triple) -> bool
 impl Numbered {
     /// Whether the job of a number has a lesser operation and key.
     fn comes_before(&self, number: u64, op: u32, key: &Text) -> bool
-        ensures { result ≡ is_found_before op key.now (job_numbered self.now.jobs number) }
+        ensures { result ≡ is_number_before op key.now self.now.jobs number }
     {
         match self.find(number) {
             Some(job) => key_order(&job.triple, op, key).is_lt(),
@@ -76,7 +77,7 @@ impl Numbered {
 }
 
 impl LiveJobs {
-    ghost use Rattle.job_core.specs.Live.{LiveState};
+    ghost use Rattle.job_core.specs.Live.{LiveState, added, confirmed, given, marked, removed};
 
     pub(crate) fn new(alloc: Global) -> LiveJobs
         ensures { result ≡ record { jobs = []; spare = 0 } }
@@ -104,7 +105,7 @@ impl LiveJobs {
         let jobs = &self.numbered;
         self.by_key.as_slice().partition_point(
             |number: &u64| -> bool
-                ensures { result ≡ is_found_before op key.entry.now (job_numbered jobs.entry.now.jobs number.now) }
+                ensures { result ≡ is_number_before op key.entry.now jobs.entry.now.jobs number.now }
             { jobs.comes_before(*number, op, key) },
         )
     }
@@ -149,12 +150,34 @@ impl LiveJobs {
         }
     }
 
+    /// How many jobs there are.
+    pub(crate) fn len(&self) -> usize
+        ensures len { result ≡ length self.now.jobs }
+        ensures rising { Rising self.now.jobs }
+        ensures one_each { OneEach self.now.jobs }
+    {
+        self.by_key.len()
+    }
+
+    /// The job of a rank in the order of operations and keys.
+    pub(crate) fn in_keys(&self, rank: usize) -> Option<&Job>
+        ensures job { option_copied result ≡ slice_get (by_keys self.now.jobs) rank }
+        ensures one_each { OneEach self.now.jobs }
+        ensures few { length self.now.jobs < 2 ^ 64 }
+    {
+        if rank < self.by_key.len() {
+            self.numbered.find(self.by_key[rank])
+        } else {
+            None
+        }
+    }
+
     /// Adds the job of the greatest number, for which there is room.
     pub(crate) fn add(&mut self, job: Job)
         requires above { JobsBelow job.number self.old.jobs }
         requires free { live_on self.old.jobs job.triple.op job.triple.key ≡ None }
         requires room { 0 < self.old.spare }
-        ensures { self.new ≡ record { jobs = self.old.jobs ++ job ∷ []; spare = self.old.spare - 1 } }
+        ensures { self.new ≡ added job self.old }
     {
         let at = self.key_rank(job.triple.op, &job.triple.key);
         insert_within(&mut self.by_key, at, job.number);
@@ -177,7 +200,7 @@ impl LiveJobs {
     pub(crate) fn remove(&mut self, number: u64) -> Job
         requires { has_job self.old.jobs number ≡ true }
         ensures job { job_numbered self.old.jobs number ≡ Some result }
-        ensures left { self.new ≡ record self.old { jobs = without_job number self.old.jobs } }
+        ensures left { self.new ≡ removed number self.old }
         ensures rising { Rising self.old.jobs }
     {
         let at = self.key_rank_of(number);
@@ -188,7 +211,7 @@ impl LiveJobs {
     /// The job of a number may start.
     pub(crate) fn confirm(&mut self, number: u64)
         requires { has_job self.old.jobs number ≡ true }
-        ensures { self.new ≡ record self.old { jobs = with_job number (λ j. record j { confirmed = true }) self.old.jobs } }
+        ensures { self.new ≡ confirmed number self.old }
     {
         self.numbered.confirm(number);
     }
@@ -196,7 +219,7 @@ impl LiveJobs {
     /// The result of the job of a number is thrown away.
     pub(crate) fn mark(&mut self, number: u64, mark: Mark)
         requires { has_job self.old.jobs number ≡ true }
-        ensures { self.new ≡ record self.old { jobs = with_job number (λ j. record j { mark = mark }) self.old.jobs } }
+        ensures { self.new ≡ marked number mark self.old }
     {
         self.numbered.mark(number, mark);
     }
@@ -204,7 +227,7 @@ impl LiveJobs {
     /// A worker runs the job of a number.
     pub(crate) fn give(&mut self, number: u64, worker: u32)
         requires { has_job self.old.jobs number ≡ true }
-        ensures given { self.new ≡ record self.old { jobs = with_job number (λ j. record j { worker = Some worker }) self.old.jobs } }
+        ensures given { self.new ≡ given number worker self.old }
         ensures rising { Rising self.old.jobs }
     {
         self.numbered.give(number, worker);
@@ -229,5 +252,51 @@ impl LiveJobs {
             numbered: self.numbered.copy(alloc)?,
             by_key,
         })
+    }
+}
+
+/// A walk over the live jobs in order of operations and keys, for those that are asked for in order.
+#[derive(Drop)]
+pub(crate) struct LiveWalk<'a> {
+    live: &'a LiveJobs,
+    /// How many jobs are passed: each has a lesser operation and key than any that is still asked for.
+    passed: usize,
+}
+
+impl<'a> LiveWalk<'a> {
+    pub(crate) fn new(live: &'a LiveJobs) -> LiveWalk<'a>
+        ensures live { result.live.now ≡ live.now }
+        ensures passed { result.passed ≡ 0 }
+    {
+        LiveWalk { live, passed: 0 }
+    }
+
+    /// Whether the next job has a lesser operation and key.
+    fn is_past(&self, op: u32, key: &Text) -> bool
+        ensures past { result ≡ is_job_past op key.now self.now.live.now.jobs self.now.passed }
+        ensures few { length self.now.live.now.jobs < 2 ^ 64 }
+    {
+        match self.live.in_keys(self.passed) {
+            Some(job) => key_order(&job.triple, op, key).is_lt(),
+            None => false,
+        }
+    }
+
+    /// The job of an operation and key that aren't less than the last ones.
+    pub(crate) fn on(&mut self, op: u32, key: &Text) -> Option<&'a Job>
+        requires { self.old.passed ≤ key_rank op key.now self.old.live.now.jobs }
+        ensures live { self.new.live ≡ self.old.live }
+        ensures passed { self.new.passed ≡ key_rank op key.now self.old.live.now.jobs }
+        ensures job { option_copied result ≡ live_on self.old.live.now.jobs op key.now }
+    {
+        while self.is_past(op, key) {
+            self.passed += 1;
+        }
+        let job = self.live.in_keys(self.passed)?;
+        if is_on(&job.triple, op, key) {
+            Some(job)
+        } else {
+            None
+        }
     }
 }

@@ -56,7 +56,7 @@ fn copy_of_jobs(alloc: Global, jobs: &[Job]) -> Result<Vec<Job>, NoMemory>
 }
 
 impl Numbered {
-    ghost use Rattle.job_core.specs.Live.{LiveState};
+    ghost use Rattle.job_core.specs.Live.{LiveState, added, confirmed, given, marked, removed};
 
     pub(crate) fn new(alloc: Global) -> Numbered
         ensures { result ≡ record { jobs = []; spare = 0 } }
@@ -104,7 +104,7 @@ impl Numbered {
         requires above { JobsBelow job.number self.old.jobs }
         requires free { live_on self.old.jobs job.triple.op job.triple.key ≡ None }
         requires room { 0 < self.old.spare }
-        ensures { self.new ≡ record { jobs = self.old.jobs ++ job ∷ []; spare = self.old.spare - 1 } }
+        ensures { self.new ≡ added job self.old }
     {
         push_within(&mut self.jobs, job);
         self.spare -= 1;
@@ -114,7 +114,7 @@ impl Numbered {
     pub(crate) fn remove(&mut self, number: u64) -> Job
         requires { has_job self.old.jobs number ≡ true }
         ensures job { job_numbered self.old.jobs number ≡ Some result }
-        ensures left { self.new ≡ record self.old { jobs = without_job number self.old.jobs } }
+        ensures left { self.new ≡ removed number self.old }
         ensures rising { Rising self.old.jobs }
     {
         let at = self.rank(number);
@@ -124,7 +124,7 @@ impl Numbered {
     /// The job of a number may start.
     pub(crate) fn confirm(&mut self, number: u64)
         requires { has_job self.old.jobs number ≡ true }
-        ensures { self.new ≡ record self.old { jobs = with_job number (λ j. record j { confirmed = true }) self.old.jobs } }
+        ensures { self.new ≡ confirmed number self.old }
     {
         let at = self.rank(number);
         self.jobs[at].confirmed = true;
@@ -133,7 +133,7 @@ impl Numbered {
     /// The result of the job of a number is thrown away.
     pub(crate) fn mark(&mut self, number: u64, mark: Mark)
         requires { has_job self.old.jobs number ≡ true }
-        ensures { self.new ≡ record self.old { jobs = with_job number (λ j. record j { mark = mark }) self.old.jobs } }
+        ensures { self.new ≡ marked number mark self.old }
     {
         let at = self.rank(number);
         self.jobs[at].mark = mark;
@@ -142,7 +142,7 @@ impl Numbered {
     /// A worker runs the job of a number.
     pub(crate) fn give(&mut self, number: u64, worker: u32)
         requires { has_job self.old.jobs number ≡ true }
-        ensures given { self.new ≡ record self.old { jobs = with_job number (λ j. record j { worker = Some worker }) self.old.jobs } }
+        ensures given { self.new ≡ given number worker self.old }
         ensures rising { Rising self.old.jobs }
     {
         let at = self.rank(number);

@@ -1,12 +1,9 @@
 //! Rows as they will be after an event's own change of them.
 ghost use Rattle.std.specs.Prelude.{◌≡◌, Some};
-ghost use Rattle.std.specs.FinMap.{get};
-ghost use Rattle.std.specs.Option.{option_and_then};
 ghost use Rattle.core_rules.specs.Entries.{with_value};
-ghost use Rattle.sched_rows.specs.RowKeys.{row_key};
 ghost use Rattle.sched_rows.specs.Validity.{IsInRange, IsTime, valid};
-ghost use Rattle.core_rules.specs.Own.{PutsInTime, rows_made};
-ghost use Rattle.job_core.specs.RowTests.{is_valid_row, same_key};
+ghost use Rattle.core_rules.specs.Own.{PutsInTime};
+ghost use Rattle.job_core.specs.RowTests.{is_valid_among, is_valid_row, rows_after, same_key};
 
 use core_rules::RowChange;
 use op_keys::OpDecl;
@@ -31,7 +28,7 @@ fn is_valid(row: &Row, op: &OpDecl, value: &Text, now: u64) -> bool
 /// Whether the row of a triple is valid.
 fn has_valid(rows: &Rows, op: &OpDecl, triple: &Triple, now: u64) -> bool
     requires { IsInRange op.now.expiry }
-    ensures { result ≡ is_valid_row op.now.expiry now (option_and_then (with_value triple.now.value) (get rows.now.rows (row_key op.now.name triple.now.key))) }
+    ensures { result ≡ is_valid_among op.now triple.now now rows.now.rows }
 {
     match rows.get(&op.name, &triple.key) {
         Some(row) => is_valid(row, op, &triple.value, now),
@@ -39,34 +36,43 @@ fn has_valid(rows: &Rows, op: &OpDecl, triple: &Triple, now: u64) -> bool
     }
 }
 
-/// Whether the row of a triple will be valid after a change of the rows.
-pub(crate) fn has_valid_after(
-    rows: &Rows,
-    change: &RowChange,
-    op: &OpDecl,
-    triple: &Triple,
-    now: u64,
-) -> bool
-    requires range { IsInRange op.now.expiry }
-    requires timely { PutsInTime change.now }
-    ensures { result ≡ is_valid_row op.now.expiry now (option_and_then (with_value triple.now.value) (get (rows_made change.now rows.now.rows) (row_key op.now.name triple.now.key))) }
-{
-    match change {
-        RowChange::None => has_valid(rows, op, triple, now),
-        RowChange::Put(row) => if is_key(&row.op, &row.key, &op.name, &triple.key) {
-            is_valid(row, op, &triple.value, now)
-        } else {
-            has_valid(rows, op, triple, now)
-        },
-        RowChange::Void(name, key) => if is_key(name, key, &op.name, &triple.key) {
-            false
-        } else {
-            has_valid(rows, op, triple, now)
-        },
-        RowChange::Mark(name, key) => if is_key(name, key, &op.name, &triple.key) {
-            false
-        } else {
-            has_valid(rows, op, triple, now)
-        },
+/// The rows at a moment, after a change of them.
+#[derive(Drop)]
+pub(crate) struct RowsAfter<'a> {
+    pub(crate) rows: &'a Rows,
+    pub(crate) change: &'a RowChange,
+    pub(crate) moment: u64,
+}
+
+impl RowsAfter<'_> {
+    /// Whether the row of a triple is valid.
+    pub(crate) fn has_valid(&self, op: &OpDecl, triple: &Triple) -> bool
+        requires range { IsInRange op.now.expiry }
+        requires timely { PutsInTime self.now.change.now }
+        ensures { result ≡ is_valid_among op.now triple.now self.now.moment (rows_after self.now) }
+    {
+        let RowsAfter {
+            rows,
+            change,
+            moment,
+        } = *self;
+        match change {
+            RowChange::None => has_valid(rows, op, triple, moment),
+            RowChange::Put(row) => if is_key(&row.op, &row.key, &op.name, &triple.key) {
+                is_valid(row, op, &triple.value, moment)
+            } else {
+                has_valid(rows, op, triple, moment)
+            },
+            RowChange::Void(name, key) => if is_key(name, key, &op.name, &triple.key) {
+                false
+            } else {
+                has_valid(rows, op, triple, moment)
+            },
+            RowChange::Mark(name, key) => if is_key(name, key, &op.name, &triple.key) {
+                false
+            } else {
+                has_valid(rows, op, triple, moment)
+            },
+        }
     }
 }

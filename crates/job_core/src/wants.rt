@@ -1,21 +1,17 @@
 //! What is wanted, and what follows for single jobs and triples.
-ghost use Rattle.std.specs.Prelude.{◌≡◌, if◌then◌else◌, IfOk, Some, None};
-ghost use Rattle.std.specs.Option.{option_copied};
-ghost use Rattle.std.specs.Ordering.{is_lt};
-ghost use Rattle.fair_pool.specs.Order.{leading};
-ghost use Rattle.core_rules.specs.Settling.{is_value, least_value, live_on, on_key, stays, target, values_on};
+ghost use Rattle.std.specs.Prelude.{◌≡◌, ◌<◌, ◌≤◌, length, IfOk, OnOk};
 ghost use Rattle.term_core.specs.Counts.{is_wanted};
 ghost use Rattle.value_core.specs.Orders.{triple_cmp};
-ghost use Rattle.job_core.specs.Keys.{is_key_below};
-ghost use Rattle.job_core.specs.Wants.{TriplesRise, drops_of, is_lost_by, lost_of, stays_found, triples_in};
+ghost use Rattle.job_core.specs.Wants.{TriplesRise, triples_in};
+ghost use Rattle.job_core.specs.Walks.{AreUnwanted, IsLeastAt, IsNotPast, IsOpenAt, IsReached, is_want_past, wants_passed, with_drop, with_loss};
 
 use crate::jobs::op_at;
-use crate::live_jobs::{LiveJobs, is_on, is_same, key_order};
+use crate::live_jobs::{LiveJobs, LiveWalk, is_on, is_same};
 use core_rules::{Job, Mark, goes_on};
 use op_keys::OpDecl;
 use std::alloc::Global;
 use std::cmp::Ordering;
-use value_core::{ListOf, NoMemory, Text, Triple};
+use value_core::{NoMemory, Triple};
 
 /// How two triples compare.
 fn triple_order(a: &Triple, b: &Triple) -> Ordering
@@ -32,155 +28,119 @@ fn triple_order(a: &Triple, b: &Triple) -> Ordering
     }
 }
 
-/// How many wanted triples come before one.
-fn rank(wants: &[(Triple, u64)], triple: &Triple) -> usize
-    requires { TriplesRise (triples_in wants.now) }
-    ensures { result ≡ leading (λ t. is_lt (triple_cmp t triple.now)) (triples_in wants.now) }
-{
-    wants.partition_point(
-        |want: &(Triple, u64)| -> bool
-            ensures { result ≡ is_lt (triple_cmp want.now.0 triple.entry.now) }
-        { triple_order(&want.0, triple).is_lt() },
-    )
-}
-
-/// Whether a triple is wanted.
-fn is_wanted(wants: &[(Triple, u64)], triple: &Triple) -> bool
-    requires { TriplesRise (triples_in wants.now) }
-    ensures { result ≡ is_wanted (triples_in wants.now) triple.now }
-{
-    let at = rank(wants, triple);
-    at < wants.len() && is_same(&wants[at].0, triple)
-}
-
-/// Whether a job stays: a queued one goes if nothing refers to it.
-fn stays(wants: &[(Triple, u64)], job: &Job) -> bool
-    requires { TriplesRise (triples_in wants.now) }
-    ensures { result ≡ stays (triples_in wants.now) job.now }
-{
-    job.worker.is_some() || is_wanted(wants, &job.triple)
-}
-
-/// Whether a running job is marked, since nothing refers to it.
-fn is_lost(wants: &[(Triple, u64)], ops: &[OpDecl], job: &Job) -> bool
-    requires { TriplesRise (triples_in wants.now) }
-    ensures { result ≡ is_lost_by (triples_in wants.now) ops.now job.now }
-{
-    job.worker.is_some()
-        && !is_wanted(wants, &job.triple)
-        && job.mark == Mark::Unmarked
-        && !goes_on(op_at(ops, job.triple.op))
-}
-
-/// How many wanted triples have a lesser operation and key.
-fn key_rank(wants: &[(Triple, u64)], op: u32, key: &Text) -> usize
-    requires { TriplesRise (triples_in wants.now) }
-    ensures { result ≡ leading (is_key_below op key.now) (triples_in wants.now) }
-{
-    wants.partition_point(
-        |want: &(Triple, u64)| -> bool
-            ensures { result ≡ is_key_below op key.entry.now want.now.0 }
-        { key_order(&want.0, op, key).is_lt() },
-    )
-}
-
-/// The value of a triple, if it is of an operation and key.
-fn value_on<'a>(triple: &'a Triple, op: u32, key: &Text) -> Option<&'a Text>
-    ensures { option_copied result ≡ (if on_key op key.now triple.now then Some triple.now.value else None) }
-{
-    if is_on(triple, op, key) {
-        Some(&triple.value)
-    } else {
-        None
-    }
-}
-
-/// The least wanted value of an operation and key.
-fn least_on<'a>(wants: &'a [(Triple, u64)], op: u32, key: &Text) -> Option<&'a Text>
-    requires { TriplesRise (triples_in wants.now) }
-    ensures { option_copied result ≡ least_value (values_on (triples_in wants.now) op key.now) }
-{
-    let at = key_rank(wants, op, key);
-    if at < wants.len() {
-        value_on(&wants[at].0, op, key)
-    } else {
-        None
-    }
-}
-
-/// The value that an operation and key are to have.
-fn target<'a>(
+/// A walk over the wanted triples, for triples that are asked for in order.
+#[derive(Drop)]
+struct WantsWalk<'a> {
     wants: &'a [(Triple, u64)],
-    live: &'a LiveJobs,
-    op: u32,
-    key: &Text,
-) -> Option<&'a Text>
-    requires { TriplesRise (triples_in wants.now) }
-    ensures { option_copied result ≡ target (triples_in wants.now) live.now.jobs op key.now }
-{
-    match live.live_on(op, key) {
-        Some(job) if is_wanted(wants, &job.triple) => Some(&job.triple.value),
-        _ => least_on(wants, op, key),
-    }
+    /// How many wanted triples are passed: each comes before any triple that is still asked for.
+    passed: usize,
 }
 
-/// Whether a triple is the target of its operation and key.
-pub(crate) fn is_target(wants: &[(Triple, u64)], live: &LiveJobs, triple: &Triple) -> bool
-    requires { TriplesRise (triples_in wants.now) }
-    ensures { result ≡ is_value (target (triples_in wants.now) live.now.jobs triple.now.op triple.now.key) triple.now.value }
-{
-    match target(wants, live, triple.op, &triple.key) {
-        Some(value) => value.is(&triple.value),
-        None => false,
-    }
-}
-
-impl LiveJobs {
-    /// Whether a live job of a triple's operation and key stays.
-    pub(crate) fn keeps(&self, wants: &[(Triple, u64)], triple: &Triple) -> bool
-        requires { TriplesRise (triples_in wants.now) }
-        ensures { result ≡ stays_found (triples_in wants.now) (live_on self.now.jobs triple.now.op triple.now.key) }
+impl WantsWalk<'_> {
+    /// Whether the next wanted triple comes before another.
+    fn is_past(&self, triple: &Triple) -> bool
+        ensures { result ≡ is_want_past triple.now self.now }
     {
-        match self.live_on(triple.op, &triple.key) {
-            Some(job) => stays(wants, job),
-            None => false,
+        self.passed < self.wants.len() && triple_order(&self.wants[self.passed].0, triple).is_lt()
+    }
+
+    /// Whether a triple is wanted that comes no earlier than the last one.
+    fn has(&mut self, triple: &Triple) -> bool
+        requires rising { TriplesRise (triples_in self.old.wants.now) }
+        requires later { self.old.passed ≤ wants_passed triple.now (triples_in self.old.wants.now) }
+        ensures wants { self.new.wants ≡ self.old.wants }
+        ensures passed { self.new.passed ≡ wants_passed triple.now (triples_in self.old.wants.now) }
+        ensures wanted { result ≡ is_wanted (triples_in self.old.wants.now) triple.now }
+    {
+        while self.is_past(triple) {
+            self.passed += 1;
         }
+        self.passed < self.wants.len() && is_same(&self.wants[self.passed].0, triple)
     }
 }
 
-/// The numbers of the jobs that go.
-pub(crate) fn drops(
-    alloc: Global,
-    wants: &[(Triple, u64)],
-    jobs: &[Job],
-) -> Result<ListOf<u64>, NoMemory>
-    requires { TriplesRise (triples_in wants.now) }
-    ensures { IfOk result (λ ns. ns ≡ drops_of (triples_in wants.now) jobs.now) }
-{
-    let mut numbers = ListOf::new(alloc);
-    for job in jobs {
-        if !stays(wants, job) {
-            numbers.push(job.number)?;
-        }
-    }
-    Ok(numbers)
+/// The numbers of the jobs to which nothing refers, as far as something becomes of them.
+#[derive(Drop)]
+pub(crate) struct Unwanted {
+    /// Queued jobs, which go.
+    pub(crate) drops: Vec<u64>,
+    /// Running jobs, which get the automatic mark.
+    pub(crate) lost: Vec<u64>,
 }
 
-/// The numbers of the running jobs that are marked, since nothing refers to them.
-pub(crate) fn lost(
-    alloc: Global,
-    wants: &[(Triple, u64)],
-    ops: &[OpDecl],
-    jobs: &[Job],
-) -> Result<ListOf<u64>, NoMemory>
-    requires { TriplesRise (triples_in wants.now) }
-    ensures { IfOk result (λ ns. ns ≡ lost_of (triples_in wants.now) ops.now jobs.now) }
-{
-    let mut numbers = ListOf::new(alloc);
-    for job in jobs {
-        if is_lost(wants, ops, job) {
-            numbers.push(job.number)?;
+impl Unwanted {
+    /// The jobs to which nothing refers, found in one walk over the live jobs and the wanted triples.
+    pub(crate) fn find(
+        alloc: Global,
+        wants: &[(Triple, u64)],
+        ops: &[OpDecl],
+        live: &LiveJobs,
+    ) -> Result<Unwanted, NoMemory>
+        requires { TriplesRise (triples_in wants.now) }
+        ensures { IfOk result (AreUnwanted (triples_in wants.now) ops.now live.now.jobs) }
+    {
+        let mut walk = WantsWalk { wants, passed: 0 };
+        let mut unwanted = Unwanted {
+            drops: Vec::new(alloc),
+            lost: Vec::new(alloc),
+        };
+        for rank in 0..live.len() {
+            if let Some(job) = live.in_keys(rank) {
+                if !walk.has(&job.triple) {
+                    unwanted.add(ops, job)?;
+                }
+            }
         }
+        unwanted.drops.sort_unstable();
+        unwanted.lost.sort_unstable();
+        Ok(unwanted)
     }
-    Ok(numbers)
+
+    /// Takes note of a job to which nothing refers.
+    fn add(&mut self, ops: &[OpDecl], job: &Job) -> Result<(), NoMemory>
+        ensures drops { OnOk result (self.new.drops.items ≡ with_drop job.now self.old) }
+        ensures lost { OnOk result (self.new.lost.items ≡ with_loss ops.now job.now self.old) }
+    {
+        if job.worker.is_none() {
+            self.drops.push(job.number)?;
+        } else if job.mark == Mark::Unmarked && !goes_on(op_at(ops, job.triple.op)) {
+            self.lost.push(job.number)?;
+        }
+        Ok(())
+    }
+}
+
+/// Whether the wanted triple of an index has the least value of its operation and key.
+fn is_least(wants: &[(Triple, u64)], index: usize) -> bool
+    requires rising { TriplesRise (triples_in wants.now) }
+    requires within { index < length wants.now }
+    ensures { IsLeastAt wants.now index result }
+{
+    let triple = &wants[index].0;
+    index == 0 || !is_on(&wants[index - 1].0, triple.op, &triple.key)
+}
+
+/// Whether the wanted triple of an index is a target of which no live job stays. The walk comes to
+/// its operation and key.
+pub(crate) fn is_open(wants: &[(Triple, u64)], index: usize, walk: &mut LiveWalk<'_>) -> bool
+    requires rising { TriplesRise (triples_in wants.now) }
+    requires within { index < length wants.now }
+    requires later { IsNotPast wants.now walk.old.live.now.jobs index walk.old.passed }
+    ensures opens { IsOpenAt wants.now walk.old.live.now.jobs index result }
+    ensures live { walk.new.live ≡ walk.old.live }
+    ensures walked { IsReached wants.now walk.old.live.now.jobs index walk.new.passed }
+{
+    let triple = &wants[index].0;
+    let job = walk.on(triple.op, &triple.key);
+    if !is_least(wants, index) {
+        return false;
+    }
+    let mut rest = WantsWalk {
+        wants,
+        passed: index,
+    };
+    match job {
+        Some(job) => job.worker.is_none() && !rest.has(&job.triple),
+        None => true,
+    }
 }

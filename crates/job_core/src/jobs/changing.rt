@@ -4,7 +4,7 @@ ghost use Rattle.fair_pool.specs.Sound.{is_rate};
 ghost use Rattle.core_rules.specs.Changes.{confirm};
 ghost use Rattle.core_rules.specs.Core.{is_queued, job_numbered};
 ghost use Rattle.core_rules.specs.Orders.{is_ready, picked};
-ghost use Rattle.job_core.specs.Stages.{restaged};
+ghost use Rattle.job_core.specs.Stages.{AreTicketsOf, restaged_pools};
 
 use super::{Jobs, op_at};
 use crate::answers::{Cancelled, JobFault};
@@ -25,8 +25,8 @@ pub(super) fn is_ready(stage: Stage) -> bool
 
 /// Queued jobs become ready, or are no longer, by the level of the moment.
 fn set_stages(ops: &[OpDecl], threshold: Option<Level>, jobs: &[Job], pools: &mut Pools)
-    requires { map (λ k. k.job) pools.old.fair.tickets ≡ map (λ j. j.number) (filter is_queued jobs.now) }
-    ensures { pools.new ≡ record pools.old { ready = restaged ops.now threshold jobs.now pools.old.fair.tickets pools.old.ready } }
+    requires { AreTicketsOf jobs.now pools.old }
+    ensures { pools.new ≡ restaged_pools ops.now threshold jobs.now pools.old }
 {
     for job in jobs {
         if job.worker.is_none() {
@@ -39,14 +39,14 @@ fn set_stages(ops: &[OpDecl], threshold: Option<Level>, jobs: &[Job], pools: &mu
 
 impl Jobs {
     ghost use Rattle.job_core.specs.State.{bare, core_at};
-    ghost use Rattle.job_core.specs.Answers.{cancel_answer, confirm_fault, if_running};
-    ghost use Rattle.job_core.specs.Own.{own_work};
+    ghost use Rattle.job_core.specs.Answers.{cancel_answer, confirming_fault, if_running};
+    ghost use Rattle.job_core.specs.Own.{with_own};
     ghost use Rattle.job_core.specs.Single.{is_queued_in, withdrawn_work};
     ghost use Rattle.core_rules.specs.declared.own.Own.TheVariants as own;
 
     /// Operations at or above the level wait to be confirmed. Takes no memory.
     pub fn set_level(&mut self, threshold: Option<Level>)
-        ensures { self.new ≡ record self.old { work = own_work (own.Level threshold) 0 self.old.work } }
+        ensures { self.new ≡ with_own (own.Level threshold) 0 self.old }
     {
         self.threshold = threshold;
         set_stages(
@@ -59,9 +59,9 @@ impl Jobs {
 
     /// A waiting job may start. Takes no memory.
     pub fn confirm(&mut self, job: u64) -> Result<(), JobFault>
-        ensures ok { OnOk result (confirm_fault (confirm (bare self.old.work) (job_numbered self.old.work.jobs job)) ≡ None) }
-        ensures fault { IfErr result (λ e. confirm_fault (confirm (bare self.old.work) (job_numbered self.old.work.jobs job)) ≡ Some e) }
-        ensures after { self.new ≡ record self.old { work = own_work (own.Confirm job) 0 self.old.work } }
+        ensures ok { OnOk result (confirming_fault self.old.work job ≡ None) }
+        ensures fault { IfErr result (λ e. confirming_fault self.old.work job ≡ Some e) }
+        ensures after { self.new ≡ with_own (own.Confirm job) 0 self.old }
     {
         let stage = match self.live.find(job) {
             Some(found) => self.stage(found),
@@ -88,7 +88,7 @@ impl Jobs {
     /// A job's result isn't wanted: a queued one goes, a running one is marked. Takes no memory.
     pub fn cancel(&mut self, job: u64) -> Result<Cancelled, JobFault>
         ensures answer { result ≡ cancel_answer (job_numbered self.old.work.jobs job) }
-        ensures after { self.new ≡ record self.old { work = own_work (own.Cancel job) 0 self.old.work } }
+        ensures after { self.new ≡ with_own (own.Cancel job) 0 self.old }
     {
         let (runs, mark) = match self.live.find(job) {
             Some(found) => (found.worker.is_some(), found.mark),
@@ -109,7 +109,7 @@ impl Jobs {
     pub fn take(&mut self, worker: u32, now: u64) -> Option<u64>
         requires { worker < length self.old.work.program.workers }
         ensures pick { result ≡ picked (core_at self.old.work now) worker }
-        ensures after { self.new ≡ record self.old { work = own_work (own.Take worker) now self.old.work } }
+        ensures after { self.new ≡ with_own (own.Take worker) now self.old }
     {
         match self.pools.pick(worker, now) {
             Some(job) => {
@@ -124,7 +124,7 @@ impl Jobs {
     /// A running job has ended, and is handed out; `None` where it isn't running. Takes no memory.
     pub fn finish(&mut self, job: u64) -> Option<Job>
         ensures job { result ≡ if_running (job_numbered self.old.work.jobs job) }
-        ensures after { self.new ≡ record self.old { work = own_work (own.Finish job) 0 self.old.work } }
+        ensures after { self.new ≡ with_own (own.Finish job) 0 self.old }
     {
         let found = self.live.find(job)?;
         let worker = found.worker?;
@@ -135,7 +135,7 @@ impl Jobs {
     /// A worker takes no more jobs. Takes no memory.
     pub fn pause(&mut self, worker: u32)
         requires { worker < length self.old.work.program.workers }
-        ensures { self.new ≡ record self.old { work = own_work (own.Pause worker) 0 self.old.work } }
+        ensures { self.new ≡ with_own (own.Pause worker) 0 self.old }
     {
         self.pools.pause(worker);
     }
@@ -143,7 +143,7 @@ impl Jobs {
     /// A worker takes jobs again. Takes no memory.
     pub fn resume(&mut self, worker: u32)
         requires { worker < length self.old.work.program.workers }
-        ensures { self.new ≡ record self.old { work = own_work (own.Resume worker) 0 self.old.work } }
+        ensures { self.new ≡ with_own (own.Resume worker) 0 self.old }
     {
         self.pools.resume(worker);
     }
@@ -153,7 +153,7 @@ impl Jobs {
         requires { client < length self.old.work.program.clients }
         ensures ok { OnOk result (is_rate rate ≡ true) }
         ensures refused { IfErr result (λ e. (e.0 ≡ rate) × (is_rate rate ≡ false)) }
-        ensures after { self.new ≡ record self.old { work = own_work (own.Rate client rate) 0 self.old.work } }
+        ensures after { self.new ≡ with_own (own.Rate client rate) 0 self.old }
     {
         self.pools.set_rate(client, rate)
     }

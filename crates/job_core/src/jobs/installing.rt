@@ -11,7 +11,7 @@ use value_core::ListOf;
 impl Jobs {
     ghost use Rattle.core_rules.specs.Own.{IsMade, own_change};
     ghost use Rattle.job_core.specs.Own.{own_work};
-    ghost use Rattle.job_core.specs.Plans.{CanCreate, CanCreateOne, CanLose, CanWithdraw, IsPlanFor, created_all, created_work, lost_all, lost_work, plan_signals, planned, triples_of, withdrawn_all};
+    ghost use Rattle.job_core.specs.Plans.{CanCreate, CanCreateOne, CanLose, CanWithdraw, IsPlanFor, lost_all, lost_work, plan_signals, planned, with_created, with_news, withdrawn_all};
     ghost use Rattle.job_core.specs.State.{core_at};
 
     /// Makes an own change.
@@ -74,7 +74,7 @@ impl Jobs {
         requires new { CanCreateOne new self.old.work }
         requires time { now ≤ 2 ^ 60 }
         requires room { 1 ≤ self.old.spare }
-        ensures { self.new ≡ record { work = created_work now new.triple self.old.work; spare = self.old.spare - 1 } }
+        ensures { self.new ≡ with_created now new.triple self.old }
     {
         let NewJob { triple, hint } = new;
         let job = Job::new(self.next, triple);
@@ -90,7 +90,7 @@ impl Jobs {
         requires news { CanCreate now news self.old.work }
         requires time { now ≤ 2 ^ 60 }
         requires room { length news ≤ self.old.spare }
-        ensures { self.new ≡ record { work = created_all now (triples_of news) self.old.work; spare = self.old.spare - length news } }
+        ensures { self.new ≡ with_news now news self.old }
     {
         let mut left = news.into_vec();
         left.reverse();

@@ -1,20 +1,17 @@
 //! Plans: what an own change and settling will make of the jobs, before anything changes.
-ghost use Rattle.std.specs.Prelude.{◌≡◌, ℕ, ◌^◌, ◌<◌, ◌≤◌, length, max, true, IfOk, OnOk, OnErr, Some, None};
+ghost use Rattle.std.specs.Prelude.{◌≡◌, ℕ, ◌^◌, ◌<◌, ◌≤◌, length, max, true, IfOk, OnOk, OnErr};
 ghost use Rattle.std.specs.List.{AllByRecursion};
 ghost use Rattle.job_core.specs.Answers.{IsUsed};
 ghost use Rattle.core_rules.specs.Core.{has_job};
-ghost use Rattle.core_rules.specs.Laws.{IsReferredBy};
-ghost use Rattle.core_rules.specs.Parts.{core_of};
 ghost use Rattle.core_rules.specs.Replies.{with_numbers};
-ghost use Rattle.core_rules.specs.Settling.{newly_marked, settle_for};
 ghost use Rattle.job_core.specs.Marking.{cancelled_jobs, listed};
 
 use super::Jobs;
 use crate::answers::SettleFault;
-use crate::live_jobs::LiveJobs;
+use crate::live_jobs::{LiveJobs, LiveWalk};
 use crate::plan::{JobsPlan, NewJob};
-use crate::row_look::has_valid_after;
-use crate::wants::{drops, is_target, lost};
+use crate::row_look::RowsAfter;
+use crate::wants::{Unwanted, is_open};
 use core_rules::{Mark, Own, RowChange};
 use op_keys::hint_of;
 use sched_rows::Rows;
@@ -62,17 +59,18 @@ fn with_mark(alloc: Global, mark: Option<u64>, numbers: &[u64]) -> Result<ListOf
 }
 
 impl Jobs {
-    ghost use Rattle.core_rules.specs.Own.{IsMade, own_change, tried_marks};
-    ghost use Rattle.job_core.specs.Own.{own_work};
-    ghost use Rattle.job_core.specs.Plans.{IsPlanFor, plan_next, plan_signals, planned, triples_of};
-    ghost use Rattle.core_rules.specs.Own.{PutsInTime, rows_made};
-    ghost use Rattle.job_core.specs.Rowing.{changed_core};
+    ghost use Rattle.core_rules.specs.Own.{IsMade, PutsInTime, own_change};
+    ghost use Rattle.job_core.specs.Own.{own_marks, own_work};
+    ghost use Rattle.job_core.specs.Plans.{IsPlanFor};
+    ghost use Rattle.job_core.specs.Rowing.{core_after};
+    ghost use Rattle.job_core.specs.Settled.{IsPlan, IsUnsettled, NoPlan, Settles};
     ghost use Rattle.job_core.specs.State.{core_at};
-    ghost use Rattle.job_core.specs.Wants.{AreWants, HasHint, fresh_of, TriplesRise, is_fresh, triples_in};
+    ghost use Rattle.job_core.specs.Walks.{AreNews, IsFreshAt, IsNotPast, IsReached};
+    ghost use Rattle.job_core.specs.Wants.{AreWants, HasHint, has_valid};
 
     /// The job that an own change marks by itself.
     fn own_mark(&self, own: &Own) -> Option<u64>
-        ensures { (now : ℕ) → listed result ≡ tried_marks (own_change (core_at self.now.work now) own.now) }
+        ensures { (now : ℕ) → listed result ≡ own_marks own.now now self.now.work }
     {
         match own {
             Own::Cancel(job) => match self.live.find(*job) {
@@ -119,25 +117,32 @@ impl Jobs {
         }
     }
 
-    /// Whether a wanted triple gets a job.
+    /// Whether the row of a triple is valid among these rows.
+    fn has_valid(&self, rows: &RowsAfter<'_>, triple: &Triple) -> bool
+        requires declared { triple.now.op < length self.now.work.program.ops }
+        requires timely { PutsInTime rows.now.change.now }
+        ensures { result ≡ has_valid (core_after self.now rows.now) triple.now }
+    {
+        rows.has_valid(&self.program.ops.as_slice()[triple.op as usize], triple)
+    }
+
+    /// Whether the wanted triple of an index gets a job. The walk comes to its operation and key.
     fn is_fresh(
         &self,
-        live: &LiveJobs,
         wants: &[(Triple, u64)],
-        rows: &Rows,
-        change: &RowChange,
-        triple: &Triple,
-        now: u64,
+        index: usize,
+        walk: &mut LiveWalk<'_>,
+        rows: &RowsAfter<'_>,
     ) -> bool
-        requires rising { TriplesRise (triples_in wants.now) }
-        requires declared { triple.now.op < length self.now.work.program.ops }
-        requires timely { PutsInTime change.now }
-        ensures { result ≡ is_fresh (triples_in wants.now) (core_of (record self.now.work { jobs = live.now.jobs }) (rows_made change.now rows.now.rows) now) triple.now }
+        requires wants { AreWants (length self.now.work.program.ops) wants.now }
+        requires within { index < length wants.now }
+        requires timely { PutsInTime rows.now.change.now }
+        requires later { IsNotPast wants.now walk.old.live.now.jobs index walk.old.passed }
+        ensures fresh { IsFreshAt wants.now self.now walk.old.live.now.jobs rows.now index result }
+        ensures live { walk.new.live ≡ walk.old.live }
+        ensures walked { IsReached wants.now walk.old.live.now.jobs index walk.new.passed }
     {
-        let op = &self.program.ops.as_slice()[triple.op as usize];
-        is_target(wants, live, triple)
-            && !live.keeps(wants, triple)
-            && !has_valid_after(rows, change, op, triple, now)
+        is_open(wants, index, walk) && !self.has_valid(rows, &wants[index].0)
     }
 
     /// A job for a triple, with the hint of its order.
@@ -154,24 +159,24 @@ impl Jobs {
         })
     }
 
-    /// The jobs that are to be created, in order.
+    /// The jobs that are to be created, in order, found in one walk over the wanted triples and the
+    /// live jobs.
     fn news(
         &self,
         live: &LiveJobs,
         wants: &[(Triple, u64)],
-        rows: &Rows,
-        change: &RowChange,
-        now: u64,
+        rows: &RowsAfter<'_>,
     ) -> Result<ListOf<NewJob>, NoMemory>
         requires wants { AreWants (length self.now.work.program.ops) wants.now }
-        requires timely { PutsInTime change.now }
-        ensures triples { IfOk result (λ ns. triples_of ns ≡ fresh_of (triples_in wants.now) (core_of (record self.now.work { jobs = live.now.jobs }) (rows_made change.now rows.now.rows) now)) }
+        requires timely { PutsInTime rows.now.change.now }
+        ensures triples { IfOk result (AreNews wants.now self.now live.now.jobs rows.now) }
         ensures hints { IfOk result (λ ns. AllByRecursion (HasHint self.now.work.program.ops) ns) }
     {
         let mut news = ListOf::new(self.alloc);
-        for want in wants {
-            if self.is_fresh(live, wants, rows, change, &want.0, now) {
-                news.push(self.new_job(&want.0)?)?;
+        let mut walk = LiveWalk::new(live);
+        for index in 0..wants.len() {
+            if self.is_fresh(wants, index, &mut walk, rows) {
+                news.push(self.new_job(&wants[index].0)?)?;
             }
         }
         Ok(news)
@@ -201,22 +206,31 @@ impl Jobs {
         requires wants { AreWants (length self.old.work.program.ops) wants.now }
         requires timely { PutsInTime change.now }
         requires time { now ≤ 2 ^ 60 }
-        ensures settled { IfOk result (λ p. settle_for (triples_in wants.now) (changed_core own.now change.now self.old.work rows.now.rows now) ≡ Some (core_of (planned p self.old.work) (rows_made change.now rows.now.rows) now)) }
-        ensures referred { IfOk result (λ p. AllByRecursion (IsReferredBy (triples_in wants.now) (planned p self.old.work).program) (planned p self.old.work).jobs) }
-        ensures signals { IfOk result (λ p. plan_signals p ≡ with_numbers (tried_marks (own_change (core_at self.old.work now) own.now)) (newly_marked (triples_in wants.now) (changed_core own.now change.now self.old.work rows.now.rows now))) }
-        ensures next { IfOk result (λ p. plan_next p ≡ (planned p self.old.work).next) }
+        ensures plan { IfOk result (IsPlan wants.now own.now change.now rows.now now self.old) }
         ensures fits { IfOk result (λ p. IsPlanFor p self.new) }
-        ensures used { IsUsed result → settle_for (triples_in wants.now) (changed_core own.now change.now self.old.work rows.now.rows now) ≡ None }
+        ensures used { IsUsed result → NoPlan wants.now own.now change.now rows.now now self.old }
         ensures jobs { self.new.work ≡ self.old.work }
         ensures room { self.old.spare ≤ self.new.spare }
         ensures err { OnErr result (self.new ≡ self.old) }
     {
         let _before = self.live.as_slice();
         let live = self.jobs_after(own, now)?;
-        let jobs = live.as_slice();
-        let drops = drops(self.alloc, wants, jobs)?;
-        let lost = lost(self.alloc, wants, self.program.ops.as_slice(), jobs)?;
-        let news = self.news(&live, wants, rows, change, now)?;
+        let _jobs = live.as_slice();
+        let Unwanted { drops, lost } = Unwanted::find(
+            self.alloc,
+            wants,
+            self.program.ops.as_slice(),
+            &live,
+        )?;
+        let news = self.news(
+            &live,
+            wants,
+            &RowsAfter {
+                rows,
+                change,
+                moment: now,
+            },
+        )?;
         let signals = with_mark(self.alloc, self.own_mark(own), lost.as_slice())?;
         if NUMBER_LIMIT - self.next < news.len() as u64 {
             return Err(SettleFault::NumbersUsed);
@@ -226,8 +240,8 @@ impl Jobs {
         Ok(JobsPlan {
             own: *own,
             moment: now,
-            drops,
-            lost,
+            drops: ListOf::from_vec(drops),
+            lost: ListOf::from_vec(lost),
             news,
             signals,
             next,
@@ -244,9 +258,8 @@ impl Jobs {
     ) -> Result<ListOf<u64>, SettleFault>
         requires wants { AreWants (length self.old.work.program.ops) wants.now }
         requires time { now ≤ 2 ^ 60 }
-        ensures settled { OnOk result (settle_for (triples_in wants.now) (core_of self.old.work rows.now.rows now) ≡ Some (core_of self.new.work rows.now.rows now)) }
-        ensures signals { IfOk result (λ ns. ns ≡ newly_marked (triples_in wants.now) (core_of self.old.work rows.now.rows now)) }
-        ensures used { IsUsed result → settle_for (triples_in wants.now) (core_of self.old.work rows.now.rows now) ≡ None }
+        ensures settled { IfOk result (Settles wants.now rows.now now self.old self.new) }
+        ensures used { IsUsed result → IsUnsettled wants.now rows.now now self.old }
         ensures err { OnErr result (self.new ≡ self.old) }
     {
         let plan = self.plan(&Own::None, wants, rows, &RowChange::None, now)?;
