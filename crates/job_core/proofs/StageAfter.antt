@@ -6,13 +6,13 @@ use Rattle.std.specs.Option.{option_and_then}
 use Rattle.std.specs.Str.{bytes_eq}
 use Rattle.value_core.specs.declared.state.Triple.{Triple}
 use Rattle.value_core.specs.Orders.{same_triple}
-use Rattle.core_rules.proofs.Helpers.{triple_same}
 use Rattle.core_rules.specs.Core.{with_job, without_job}
 use Rattle.core_rules.specs.Entries.{job_of}
 use Rattle.core_rules.specs.Laws.{JobsAbove, OneEach, Rising}
 use Rattle.core_rules.specs.Settling.{live_on, on_key}
 use Rattle.core_rules.specs.declared.jobs.Job.{Job}
-use Rattle.job_core.proofs.Places.{above_stays}
+use Rattle.value_core.proofs.Basics.{triple_same}
+use Rattle.core_rules.proofs.Rising.{none_numbered}
 
 -- a job, or what it becomes where it has a number
 abbrev pub changed : ℕ → (Job → Job) → Job → Job
@@ -63,7 +63,7 @@ job_without n [] t r o = refl
 job_without n (j ∷ js) t r o = elim (j.number == n) as (λ b. (j.number == n) ≡ b → job_of (cond (not b) (j ∷ without_job n js) (without_job n js)) t ≡ option_and_then (other n) (cond (same_triple j.triple t) (Some j) (job_of js t))) [
   | true ↦ λ e.
       let above = subst (λ m. JobsAbove m js) (eqb-true j.number n e) r.0 in
-      ap (λ ks. job_of ks t) (above_stays n js above)
+      ap (λ ks. job_of ks t) (none_numbered n js above)
       ∙ elim (same_triple j.triple t) as (λ b. same_triple j.triple t ≡ b → job_of js t ≡ option_and_then (other n) (cond b (Some j) (job_of js t))) [
         | true ↦ λ s. ap (job_of js) (sym (triple_same j.triple t s)) ∙ none_of js j.triple o.0 ∙ sym (ap (λ b. if b then None else Some j) e)
         | false ↦ λ s. above_other n js t above

@@ -1,33 +1,33 @@
 -- The stage of a triple's job after an own change.
-use Rattle.std.proofs.Common.{◌≡◌, ℕ, ◌<◌, Bool, true, false, cond, List, [], ◌∷◌, Option, Some, None, is_some, refl, sym, ap, ◌∙◌, subst, arith, length}
+use Rattle.std.proofs.Common.{◌≡◌, ℕ, ◌<◌, Bool, true, false, cond, List, [], ◌∷◌, Option, Some, None, is_some, refl, sym, ap, ◌∙◌, arith, length}
 use Rattle.std.proofs.lemmas.Bool.{both_ways, eqb-true, eq-eqb, ne_eqb}
 use Rattle.std.specs.Prelude.{◌==◌, if◌then◌else◌, nat_lt, option_map, slice_set}
 use Rattle.std.specs.Option.{option_and_then}
-use Rattle.value_core.specs.declared.state.Stage.{Stage}
-use Rattle.value_core.specs.declared.state.Stage.TheVariants.{Ready, Waiting, Running}
+use Rattle.value_core.specs.declared.state.Stage.TheVariants.{Ready, Running}
 use Rattle.value_core.specs.declared.state.Triple.{Triple}
 use Rattle.value_core.specs.Orders.{same_triple}
 use Rattle.fair_pool.specs.Sound.{is_rate}
 use Rattle.core_rules.specs.Changes.{Refuses, pause, plain, set_rate}
 use Rattle.core_rules.specs.declared.events.Refusal.TheVariants as refusal
 use Rattle.core_rules.specs.Core.{job_numbered, stage, with_job, without_job}
-use Rattle.core_rules.specs.Entries.{job_of}
+use Rattle.core_rules.specs.Entries.{job_of, stage_in}
 use Rattle.core_rules.specs.Laws.{OneEach, Rising}
-use Rattle.core_rules.specs.Orders.{is_ready, picked}
+use Rattle.core_rules.specs.Orders.{picked}
 use Rattle.core_rules.specs.Parts.{Work}
 use Rattle.core_rules.specs.declared.jobs.Job.{Job}
 use Rattle.core_rules.specs.declared.jobs.Mark.TheVariants.{User}
 use Rattle.core_rules.specs.Own.{IsMade, own_change, tried_state}
-use Rattle.job_core.specs.Own.{owned, stage_in}
+use Rattle.job_core.specs.Own.{owned}
 use Rattle.job_core.specs.State.{bare, core_at}
 use Rattle.core_rules.specs.declared.own.Own.{Own}
 use Rattle.core_rules.specs.declared.own.Own.TheVariants as own
 use Rattle.job_core.proofs.Found.{confirmed_ready}
 use Rattle.job_core.proofs.KeptJobs.{confirm_one, give_one, mark_one}
-use Rattle.job_core.proofs.OwnMade.{Runs, Takes, Unmarks, Waits, cancel_made, confirm_made, finish_made, take_made}
+use Rattle.job_core.proofs.OwnMade.{Runs, Unmarks, Waits, cancel_made, confirm_made, finish_made, take_made}
 use Rattle.job_core.proofs.OwnWork.{confirm_work, finish_work, mark_work, take_work, withdraw_work}
 use Rattle.job_core.proofs.Places.{above_has, has_found}
 use Rattle.job_core.proofs.StageAfter.{changed, job_with, job_without, other}
+use Rattle.core_rules.proofs.Starts.{stage_ready}
 
 -- ---- one job changes or goes
 
@@ -64,11 +64,6 @@ same_job js t n j m r e f h =
 
 -- ---- own changes
 
-ready_is : (g : Stage) → is_ready g ≡ true → g ≡ Ready
-ready_is Ready e = refl
-ready_is Waiting e = let z : ⊥ = cc in absurd z
-ready_is Running e = let z : ⊥ = cc in absurd z
-
 pub confirm_stage : (w : Work) (now n : ℕ) (t : Triple) (j : Job) → Rising w.jobs → Waits (core_at w now) n → job_of w.jobs t ≡ Some j →
     stage_in (owned (core_at w now) (own.Confirm n)) t ≡ (if j.number == n then Some Ready else Some (stage (bare w) j))
 confirm_stage w now n t j r m e =
@@ -77,7 +72,7 @@ confirm_stage w now n t j r m e =
     ∙ elim (j.number == n) as (λ b. (j.number == n) ≡ b → Some (stage (bare w) (if b then confirm_one j else j)) ≡ (if b then Some Ready else Some (stage (bare w) j))) [
       | true ↦ λ h.
           let same = same_job w.jobs t n j m.job r e m.found h in
-          ap Some (ready_is (stage (bare w) (confirm_one j)) (confirmed_ready (bare w) j (ap (stage (bare w)) same ∙ m.waits)))
+          ap Some (stage_ready (stage (bare w) (confirm_one j)) (confirmed_ready (bare w) j (ap (stage (bare w)) same ∙ m.waits)))
       | false ↦ λ h. refl
     ] refl
 

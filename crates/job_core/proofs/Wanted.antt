@@ -1,28 +1,25 @@
 -- Wanted triples that rise: where one is found, and the least of an operation and key.
-use Rattle.std.proofs.Common.{◌≡◌, ℕ, zero, suc, ◌<◌, ◌≤◌, Bool, true, false, cond, ◌&&◌, ◌||◌, List, [], ◌∷◌, map, length, get_or, Option, Some, None, refl, sym, ap, ◌∙◌, subst, arith}
+use Rattle.std.proofs.Common.{◌≡◌, ℕ, zero, suc, ◌<◌, ◌≤◌, Bool, true, false, cond, ◌&&◌, ◌||◌, List, [], ◌∷◌, map, length, get_or, refl, sym, ap, ◌∙◌, arith}
 use Rattle.std.proofs.Common.{Less, Equal, Greater}
-use Rattle.std.proofs.lemmas.Bool.{and_parts, false_from_ne_true, le-ltb, lt-ltb, ltb-false, ltb-true}
+use Rattle.std.proofs.lemmas.Bool.{false_from_ne_true, le-ltb, lt-ltb, ltb-false, ltb-true}
 use Rattle.std.specs.Prelude.{◌==◌, nat_lt, filter, if◌then◌else◌}
 use Rattle.std.specs.List.{AllByRecursion}
-use Rattle.std.specs.List.Sorted.{IsPartitionedBy}
 use Rattle.std.specs.declared.cmp.Ordering.{Ordering}
-use Rattle.std.specs.Ordering.{is_eq, is_gt, is_lt, nat_cmp, on, ordering_reverse, ordering_then, then_cmp}
-use Rattle.std.specs.FinMap.{nat_cmp-IsAntisymmetric, slice_cmp-IsAntisymmetric}
-use Rattle.std.specs.Cmp.{Equal-is, tied_then, IsTotalOrder, nat_cmp_total, on_total, then_total, tied_itself}
+use Rattle.std.specs.Ordering.{is_gt, is_lt, nat_cmp, ordering_then}
+use Rattle.std.specs.Cmp.{IsTotalOrder, nat_cmp_total, on_total, then_total, tied_itself}
 use Rattle.std.specs.Cmp.Lexicographic.{nat_list_cmp_total}
 use Rattle.value_core.specs.declared.state.Triple.{Triple}
 use Rattle.value_core.specs.Orders.{same_triple}
 use Rattle.value_core.specs.Orders.{bytes_cmp}
-use Rattle.value_core.proofs.Basics.{triples_tie}
-use Rattle.fair_pool.specs.Order.{leading, IsInOrder, Rises}
-use Rattle.fair_pool.proofs.Ordered.{IsBefore, IsInOrder-Rises, all_since, parted}
-use Rattle.core_rules.proofs.Helpers.{triple_itself, triple_same}
-use Rattle.core_rules.specs.Settling.{least_text, least_value, on_key, values_on}
+use Rattle.value_core.proofs.Basics.{triples_tie, triple_same, same_triples}
+use Rattle.fair_pool.specs.Order.{leading, IsInOrder}
+use Rattle.fair_pool.proofs.Ordered.{IsBefore, all_since}
+use Rattle.core_rules.specs.Settling.{least_text, on_key, values_on}
 use Rattle.term_core.specs.Counts.{is_wanted}
 use Rattle.value_core.specs.Orders.{triple_cmp}
-use Rattle.job_core.specs.Keys.{is_key_below, key_cmp}
+use Rattle.job_core.specs.Keys.{key_cmp}
 use Rattle.job_core.specs.Wants.{TriplesRise}
-use Rattle.job_core.proofs.Keys.{above_is, before_asym, before_upto, keys_cmp, keys_total, on_parts, on_same, tie_on}
+use Rattle.job_core.proofs.Keys.{above_is, before_asym, before_upto, keys_cmp, keys_total, on_parts}
 
 -- ---- the order of triples
 
@@ -70,7 +67,7 @@ wanted_rank (u ∷ us) t d r = elim (triple_cmp u t) as (λ o. triple_cmp u t �
     ≡ (nat_lt (cond (is_lt o) (suc (leading (λ u. triple_before u t) us)) zero) (suc (length us)) && same_triple (get_or (u ∷ us) (cond (is_lt o) (suc (leading (λ u. triple_before u t) us)) zero) d) t)) [
       | Less ↦ λ e. ap (λ b. b || is_wanted us t) (same_not_less u t e) ∙ wanted_rank us t d r.1
           ∙ ap (λ b. b && same_triple (get_or us (leading (λ u. triple_before u t) us) d) t) (sym (lt_suc (leading (λ u. triple_before u t) us) (length us)))
-      | Equal ↦ λ e. let h = triple_itself u t (triples_tie u t e) in ap (λ b. b || is_wanted us t) h ∙ sym h ∙ sym (ap (λ b. b && same_triple u t) (lt_first (length us)))
+      | Equal ↦ λ e. let h = same_triples u t (triples_tie u t e) in ap (λ b. b || is_wanted us t) h ∙ sym h ∙ sym (ap (λ b. b && same_triple u t) (lt_first (length us)))
       | Greater ↦ λ e. ap (λ b. same_triple u t || b) (none_wanted u t us e r.0) ∙ or_none (same_triple u t) ∙ sym (ap (λ b. b && same_triple u t) (lt_first (length us)))
     ] refl
 

@@ -1,9 +1,6 @@
 -- The jobs after an event's own change.
-use Rattle.std.specs.Prelude.{ℕ, List, Option, option_map}
-use Rattle.value_core.specs.declared.state.Stage.{Stage}
-use Rattle.value_core.specs.declared.state.Triple.{Triple}
-use Rattle.core_rules.specs.Core.{CoreState, stage}
-use Rattle.core_rules.specs.Entries.{job_of}
+use Rattle.std.specs.Prelude.{ℕ, List}
+use Rattle.core_rules.specs.Core.{CoreState}
 use Rattle.core_rules.specs.Own.{own_change, tried_marks, tried_state}
 use Rattle.core_rules.specs.Parts.{Work, work_of}
 use Rattle.core_rules.specs.declared.own.Own.{Own}
@@ -16,10 +13,6 @@ owned s o = tried_state s (own_change s o)
 -- the jobs after an own change at a moment
 abbrev pub own_work : Own → ℕ → Work → Work
 own_work o now w = work_of (owned (core_at w now) o)
-
--- the stage of the live job of a triple
-abbrev pub stage_in : CoreState → Triple → Option Stage
-stage_in s t = option_map (stage s) (job_of s.jobs t)
 
 -- the same of what the jobs show
 abbrev pub with_own : Own → ℕ → JobsState → JobsState

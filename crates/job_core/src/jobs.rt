@@ -62,7 +62,7 @@ pub(crate) fn op_at(ops: &[OpDecl], op: u32) -> Option<&OpDecl>
 
 impl Jobs {
     ghost use Rattle.job_core.specs.State.{JobsState, bare, jobs_opened};
-    ghost use Rattle.job_core.specs.Own.{stage_in};
+    ghost use Rattle.core_rules.specs.Entries.{stage_in};
 
     /// No job yet, for a sound program and pools that were just opened from its declarations; the
     /// first job has the number `next`.

@@ -18,7 +18,8 @@ fn unless(stage: Stage, job: &Job, number: u64, other: Option<Stage>) -> Option<
 
 impl Jobs {
     ghost use Rattle.core_rules.specs.Own.{IsMade, own_change};
-    ghost use Rattle.job_core.specs.Own.{owned, stage_in};
+    ghost use Rattle.core_rules.specs.Entries.{stage_in};
+    ghost use Rattle.job_core.specs.Own.{owned};
     ghost use Rattle.job_core.specs.State.{core_at};
 
     /// How far the live job of a triple will have come after an own change, where there will be

@@ -3,12 +3,12 @@ use Rattle.std.specs.Prelude.{◌==◌, if◌then◌else◌, option_map}
 use Rattle.value_core.specs.declared.state.Stage.TheVariants.{Ready, Running}
 use Rattle.core_rules.proofs.Starts.{pick_ready}
 use Rattle.core_rules.specs.Core.{stage, stage_under}
-use Rattle.core_rules.specs.Entries.{job_of}
+use Rattle.core_rules.specs.Entries.{job_of, stage_in}
 use Rattle.core_rules.specs.Laws.{OneEach, Rising}
 use Rattle.core_rules.specs.Orders.{picked}
 use Rattle.core_rules.specs.Parts.{Work}
 use Rattle.core_rules.specs.Own.{IsMade, own_change}
-use Rattle.job_core.specs.Own.{owned, stage_in}
+use Rattle.job_core.specs.Own.{owned}
 use Rattle.job_core.specs.State.{bare, core_at}
 use Rattle.job_core.proofs.Found.{ready_found}
 use Rattle.job_core.proofs.OwnMade.{cancel_made, confirm_made, finish_made, take_made}
