@@ -1,6 +1,6 @@
 -- Creating a job for each fresh target is what creating does with all targets.
 use Rattle.std.proofs.Common.{◌≡◌, ℕ, ◌+◌, ◌^◌, ◌<◌, ◌≤◌, Bool, true, false, cond, not, ◌||◌, List, [], ◌∷◌, ◌++◌, length, Option, Some, None, is_some, Less, Equal, refl, sym, ap, ◌∙◌, arith}
-use Rattle.std.proofs.lemmas.Bool.{and_from, and_parts, cond_both, eq-eqb, eqb-true, false_from_ne_true, lt-ltb, ltb-true, both_ways}
+use Rattle.std.proofs.lemmas.Bool.{and_parts, cond_both, eqb-true, false_from_ne_true, lt-ltb, ltb-true}
 use Rattle.std.specs.Cmp.{nat_cmp_total, tied_itself}
 use Rattle.std.specs.Cmp.Lexicographic.{nat_list_cmp_total}
 use Rattle.std.specs.Ordering.{ordering_then}
@@ -12,7 +12,7 @@ use Rattle.value_core.specs.declared.state.Triple.{Triple}
 use Rattle.value_core.specs.Orders.{bytes_cmp}
 use Rattle.sched_rows.specs.Rows.{Rows}
 use Rattle.fair_pool.proofs.Ordered.{all_since}
-use Rattle.core_rules.proofs.Helpers.{all_filter, bytes_itself, bytes_same}
+use Rattle.core_rules.proofs.Helpers.{all_filter, bytes_same}
 use Rattle.core_rules.specs.Core.{CoreState, op_of}
 use Rattle.core_rules.specs.Entries.{row_of}
 use Rattle.core_rules.specs.Parts.{Work, core_of}

@@ -1,5 +1,5 @@
 -- Live jobs in order of their operations and keys: one more, one less, and where one is found.
-use Rattle.std.proofs.Common.{◌≡◌, ℕ, zero, suc, ◌+◌, ◌<◌, ◌≤◌, Bool, true, false, cond, not, ◌&&◌, List, [], ◌∷◌, ◌++◌, map, length, get_or, Option, Some, None, refl, sym, ap, ◌∙◌, subst, arith}
+use Rattle.std.proofs.Common.{◌≡◌, ℕ, zero, suc, ◌<◌, Bool, true, false, cond, not, ◌&&◌, List, [], ◌∷◌, ◌++◌, map, length, get_or, Some, None, refl, sym, ap, ◌∙◌, subst, arith}
 use Rattle.std.proofs.Common.{Less, Equal, Greater}
 use Rattle.std.proofs.lemmas.Bool.{and_from, and_parts, both_ways, eqb-true, eq-eqb, ne_eqb}
 use Rattle.std.specs.Prelude.{◌==◌, if◌then◌else◌, remove, insert}
@@ -7,27 +7,25 @@ use Rattle.std.specs.Option.{option_and_then}
 use Rattle.std.specs.List.{AllByRecursion}
 use Rattle.std.specs.List.Sorted.{IsPartitionedBy}
 use Rattle.std.specs.declared.cmp.Ordering.{Ordering}
-use Rattle.std.specs.Ordering.{is_eq, is_gt, is_lt, nat_cmp, on, ordering_reverse, ordering_then, then_cmp}
+use Rattle.std.specs.Ordering.{is_eq, is_gt, is_lt, nat_cmp, on, ordering_reverse, then_cmp}
 use Rattle.std.specs.Cmp.{Equal-is, IsTotalOrder, nat_cmp_total, on_total, then_total, tied_then, upto}
 use Rattle.std.specs.Cmp.Lexicographic.{nat_list_cmp_total}
 use Rattle.std.specs.FinMap.{nat_cmp-IsAntisymmetric, slice_cmp-IsAntisymmetric}
 use Rattle.std.specs.Str.{bytes_eq}
 use Rattle.value_core.specs.declared.state.Triple.{Triple}
-use Rattle.value_core.specs.Orders.{same_triple}
 use Rattle.value_core.specs.Orders.{bytes_cmp}
-use Rattle.fair_pool.specs.Order.{displaced, in_order, leading, placed, IsInOrder}
+use Rattle.fair_pool.specs.Order.{leading, placed}
 use Rattle.fair_pool.proofs.Ordered.{IsBefore, IsInOrder-in_order, all_at, all_in_order, displaced-placed, displaced_remove, leading-placed, not_itself, parted, placed-placed, placed_insert}
 use Rattle.core_rules.proofs.Helpers.{bytes_itself, bytes_same}
 use Rattle.core_rules.specs.Core.{job_numbered, with_job, without_job}
 use Rattle.core_rules.specs.Entries.{job_of}
-use Rattle.core_rules.specs.Laws.{JobsAbove, JobsBelow, OneEach, Rising}
+use Rattle.core_rules.specs.Laws.{JobsAbove, OneEach, Rising}
 use Rattle.core_rules.specs.Settling.{live_on, on_key}
 use Rattle.core_rules.specs.declared.jobs.Job.{Job}
 use Rattle.core_rules.specs.declared.jobs.Mark.TheVariants.{Unmarked}
 use Rattle.job_core.specs.Keys.{by_keys, is_found_before, is_key_before, key_before, key_cmp, key_rank}
 use Rattle.job_core.proofs.Places.{above_has, above_stays, has_found}
 use Rattle.job_core.proofs.StageAfter.{none_of}
-use Rattle.core_rules.proofs.Parts.{among}
 
 -- ---- the order
 

@@ -1,5 +1,5 @@
 -- The stage of a triple's job after an own change.
-use Rattle.std.proofs.Common.{◌≡◌, ℕ, ◌<◌, Bool, true, false, cond, List, [], ◌∷◌, Option, Some, None, is_some, refl, sym, ap, ◌∙◌, subst, arith, length}
+use Rattle.std.proofs.Common.{◌≡◌, ℕ, ◌<◌, Bool, true, false, cond, List, [], ◌∷◌, Option, Some, None, is_some, refl, sym, ap, ◌∙◌, arith, length}
 use Rattle.std.proofs.lemmas.Bool.{both_ways, eqb-true, eq-eqb, ne_eqb}
 use Rattle.std.specs.Prelude.{◌==◌, if◌then◌else◌, nat_lt, option_map, slice_set}
 use Rattle.std.specs.Option.{option_and_then}
@@ -24,7 +24,7 @@ use Rattle.core_rules.specs.declared.own.Own.{Own}
 use Rattle.core_rules.specs.declared.own.Own.TheVariants as own
 use Rattle.job_core.proofs.Found.{confirmed_ready}
 use Rattle.job_core.proofs.KeptJobs.{confirm_one, give_one, mark_one}
-use Rattle.job_core.proofs.OwnMade.{Runs, Takes, Unmarks, Waits, cancel_made, confirm_made, finish_made, take_made}
+use Rattle.job_core.proofs.OwnMade.{Runs, Unmarks, Waits, cancel_made, confirm_made, finish_made, take_made}
 use Rattle.job_core.proofs.OwnWork.{confirm_work, finish_work, mark_work, take_work, withdraw_work}
 use Rattle.job_core.proofs.Places.{above_has, has_found}
 use Rattle.job_core.proofs.StageAfter.{changed, job_with, job_without, other}

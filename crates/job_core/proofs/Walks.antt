@@ -1,25 +1,24 @@
 -- Walks in order: where one stops, and that it never has to go back.
-use Rattle.std.proofs.Common.{◌≡◌, ℕ, zero, suc, ◌+◌, ◌<◌, ◌≤◌, Bool, true, false, cond, not, ◌&&◌, ◌||◌, List, [], ◌∷◌, map, length, get_or, drop, Option, Some, None, refl, sym, ap, ◌∙◌, subst, arith}
+use Rattle.std.proofs.Common.{◌≡◌, ℕ, zero, suc, ◌+◌, ◌<◌, ◌≤◌, Bool, true, false, cond, not, List, [], ◌∷◌, map, length, get_or, Option, Some, None, refl, sym, ap, ◌∙◌, subst, arith}
 use Rattle.std.proofs.Common.{Less, Equal, Greater}
 use Rattle.std.proofs.lemmas.Bool.{both_ways, false≢true, true≢false, false_from_ne_true}
-use Rattle.std.specs.Prelude.{◌==◌, filter, if◌then◌else◌, slice_get, option_map}
+use Rattle.std.specs.Prelude.{filter, slice_get}
 use Rattle.std.specs.List.{AllByRecursion}
 use Rattle.std.specs.Ordering.{is_lt, ordering_then}
-use Rattle.std.specs.Cmp.Lexicographic.{nat_list_cmp_total}
 use Rattle.value_core.specs.declared.state.Triple.{Triple}
-use Rattle.value_core.specs.Orders.{bytes_cmp, same_triple, triple_cmp}
+use Rattle.value_core.specs.Orders.{bytes_cmp, triple_cmp}
 use Rattle.value_core.proofs.Basics.{bytes_same, same_bytes}
 use Rattle.fair_pool.specs.Order.{IsInOrder, Rises, leading, placed}
 use Rattle.fair_pool.proofs.Ordered.{IsInOrder-in_order, all_in_order, all_placed, all_since, chains}
 use Rattle.core_rules.specs.Laws.{OneEach, Rising}
-use Rattle.core_rules.specs.Settling.{is_value, least_text, least_value, live_on, on_key, values_on}
+use Rattle.core_rules.specs.Settling.{is_value, least_value, live_on, on_key}
 use Rattle.core_rules.specs.declared.jobs.Job.{Job}
 use Rattle.job_core.specs.Keys.{by_keys, is_key_before, key_before, key_cmp, key_rank}
 use Rattle.job_core.specs.Walks.{is_before, is_least, passes, wants_passed}
 use Rattle.job_core.specs.Wants.{TriplesRise}
 use Rattle.core_rules.specs.Core.{job_numbered}
 use Rattle.job_core.proofs.Keys.{numbers, self_found, before_asym, before_either, before_upto, key_before_order, keys_total, on_parts, on_same, tie_on}
-use Rattle.job_core.proofs.Wanted.{by_key, keys_before, keys_before_order, keys_in_order, least_stays, on_tie, triple_before, triple_before_order, triples_total}
+use Rattle.job_core.proofs.Wanted.{by_key, keys_before, keys_in_order, least_stays, on_tie, triple_before, triple_before_order}
 
 -- ---- how far a walk has come
 

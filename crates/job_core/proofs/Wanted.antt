@@ -1,28 +1,26 @@
 -- Wanted triples that rise: where one is found, and the least of an operation and key.
-use Rattle.std.proofs.Common.{◌≡◌, ℕ, zero, suc, ◌<◌, ◌≤◌, Bool, true, false, cond, ◌&&◌, ◌||◌, List, [], ◌∷◌, map, length, get_or, Option, Some, None, refl, sym, ap, ◌∙◌, subst, arith}
+use Rattle.std.proofs.Common.{◌≡◌, ℕ, zero, suc, ◌<◌, ◌≤◌, Bool, true, false, cond, ◌&&◌, ◌||◌, List, [], ◌∷◌, map, length, get_or, refl, sym, ap, ◌∙◌, arith}
 use Rattle.std.proofs.Common.{Less, Equal, Greater}
-use Rattle.std.proofs.lemmas.Bool.{and_parts, false_from_ne_true, le-ltb, lt-ltb, ltb-false, ltb-true}
-use Rattle.std.specs.Prelude.{◌==◌, nat_lt, filter, if◌then◌else◌}
+use Rattle.std.proofs.lemmas.Bool.{false_from_ne_true, le-ltb, lt-ltb, ltb-false, ltb-true}
+use Rattle.std.specs.Prelude.{nat_lt, filter, if◌then◌else◌}
 use Rattle.std.specs.List.{AllByRecursion}
-use Rattle.std.specs.List.Sorted.{IsPartitionedBy}
 use Rattle.std.specs.declared.cmp.Ordering.{Ordering}
-use Rattle.std.specs.Ordering.{is_eq, is_gt, is_lt, nat_cmp, on, ordering_reverse, ordering_then, then_cmp}
-use Rattle.std.specs.FinMap.{nat_cmp-IsAntisymmetric, slice_cmp-IsAntisymmetric}
-use Rattle.std.specs.Cmp.{Equal-is, tied_then, IsTotalOrder, nat_cmp_total, on_total, then_total, tied_itself}
+use Rattle.std.specs.Ordering.{is_gt, is_lt, nat_cmp, ordering_then}
+use Rattle.std.specs.Cmp.{IsTotalOrder, nat_cmp_total, on_total, then_total, tied_itself}
 use Rattle.std.specs.Cmp.Lexicographic.{nat_list_cmp_total}
 use Rattle.value_core.specs.declared.state.Triple.{Triple}
 use Rattle.value_core.specs.Orders.{same_triple}
 use Rattle.value_core.specs.Orders.{bytes_cmp}
 use Rattle.value_core.proofs.Basics.{triples_tie}
-use Rattle.fair_pool.specs.Order.{leading, IsInOrder, Rises}
-use Rattle.fair_pool.proofs.Ordered.{IsBefore, IsInOrder-Rises, all_since, parted}
+use Rattle.fair_pool.specs.Order.{leading, IsInOrder}
+use Rattle.fair_pool.proofs.Ordered.{IsBefore, all_since}
 use Rattle.core_rules.proofs.Helpers.{triple_itself, triple_same}
-use Rattle.core_rules.specs.Settling.{least_text, least_value, on_key, values_on}
+use Rattle.core_rules.specs.Settling.{least_text, on_key, values_on}
 use Rattle.term_core.specs.Counts.{is_wanted}
 use Rattle.value_core.specs.Orders.{triple_cmp}
-use Rattle.job_core.specs.Keys.{is_key_below, key_cmp}
+use Rattle.job_core.specs.Keys.{key_cmp}
 use Rattle.job_core.specs.Wants.{TriplesRise}
-use Rattle.job_core.proofs.Keys.{above_is, before_asym, before_upto, keys_cmp, keys_total, on_parts, on_same, tie_on}
+use Rattle.job_core.proofs.Keys.{above_is, before_asym, before_upto, keys_cmp, keys_total, on_parts}
 
 -- ---- the order of triples
 
