@@ -47,10 +47,10 @@ rank_before_order = record {
   upto = λ a b c. sooner_upto a.urgent b.urgent c.urgent a.start b.start c.start a.job b.job c.job;
 }
 
-lt_asym : (a b : ℕ) → nat_lt a b ≡ true → nat_lt b a ≡ false
+pub lt_asym : (a b : ℕ) → nat_lt a b ≡ true → nat_lt b a ≡ false
 lt_asym a b e = grind (arith, nat_tests)
 
-lt_upto : (a b c : ℕ) → nat_lt b a ≡ false → nat_lt c b ≡ false → nat_lt c a ≡ false
+pub lt_upto : (a b c : ℕ) → nat_lt b a ≡ false → nat_lt c b ≡ false → nat_lt c a ≡ false
 lt_upto a b c e f = grind (arith, nat_tests)
 
 pub job_before_order : IsBefore job_before

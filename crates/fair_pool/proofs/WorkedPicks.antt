@@ -1,5 +1,5 @@
 -- Starts, orders and picks, worked by hand: the definitions compute to them.
-use Rattle.std.specs.Prelude.{◌≡◌, ℕ, Bool, true, false, List, [], ◌∷◌, map, codes, Option, Some, None, refl}
+use Rattle.std.specs.Prelude.{◌≡◌, ℕ, Bool, true, false, [], ◌∷◌, map, codes, Option, Some, None, refl}
 use Rattle.std.specs.FinMap.{empty}
 use Rattle.op_keys.specs.declared.declarations.Expiry.TheVariants.{Never}
 use Rattle.op_keys.specs.declared.declarations.OpDecl.{OpDecl}

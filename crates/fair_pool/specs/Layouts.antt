@@ -11,6 +11,10 @@ pub record Layout : Type 0 where
   pub clients : List ClientDecl
   pub workers : List WorkerDecl
 
+-- the declarations of these lists
+abbrev pub layout_of_lists : List PoolDecl → List ClientDecl → List WorkerDecl → Layout
+layout_of_lists ps cs ws = record { pools = ps; clients = cs; workers = ws }
+
 -- the number of the pool of this name, or how many pools there are where none has it
 abbrev pub pool_number : List PoolDecl → List ℕ → ℕ
 pool_number pools n = index_named 0 (map (λ d. d.name) pools) n
@@ -41,3 +45,11 @@ capacity_of None = 0
 abbrev pub worker_pool : Layout → Option WorkerDecl → ℕ
 worker_pool l (Some d) = pool_number l.pools d.pool
 worker_pool l None = length l.pools
+
+-- the number of the worker of this name, where one is declared
+abbrev pub worker_named : Layout → List ℕ → Option ℕ
+worker_named l n = declared (length l.workers) (worker_number l.workers n)
+
+-- the number of a pool's client of this name, where one is declared
+abbrev pub client_named : Layout → List ℕ → List ℕ → Option ℕ
+client_named l pool n = declared (length l.clients) (client_number l.clients pool n)

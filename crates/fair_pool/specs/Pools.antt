@@ -1,10 +1,14 @@
 -- What the pools keep, and what each call makes of it.
-use Rattle.std.specs.Prelude.{ℕ, ◌+◌, ◌-◌, Bool, false, if◌then◌else◌, List, [], map, length, replicate, slice_index, slice_set, Option}
+use Rattle.std.specs.Prelude.{ℕ, ◌+◌, ◌-◌, Bool, false, if◌then◌else◌, List, [], map, length, nat_le, replicate, slice_get, slice_index, slice_set, Option}
 use Rattle.std.specs.FinMap.{empty}
 use Rattle.op_keys.specs.declared.declarations.OpDecl.{OpDecl}
-use Rattle.fair_pool.specs.Fair.{Fair, ticketed, withdrawn, hint_noted, pick, looked_at}
+use Rattle.fair_pool.specs.Fair.{Fair, allows, ticketed, takes_none, withdrawn, hint_noted, pick, looked_at}
 use Rattle.fair_pool.specs.Flags.{flag_of, with_flag, flagged, without_flag}
-use Rattle.fair_pool.specs.Layouts.{Layout}
+use Rattle.op_keys.specs.declared.declarations.ClientDecl.{ClientDecl}
+use Rattle.op_keys.specs.declared.declarations.PoolDecl.{PoolDecl}
+use Rattle.op_keys.specs.declared.declarations.WorkerDecl.{WorkerDecl}
+use Rattle.fair_pool.specs.Layouts.{Layout, hold_of, layout_of_lists}
+use Rattle.fair_pool.specs.declared.ticket.Ticket.{Ticket}
 use Rattle.fair_pool.specs.Sound.{is_rate}
 
 -- the declarations, the tickets with what goes with them, whether each ticket's job is ready, how many jobs each worker runs, and for how many tickets there is room
@@ -22,6 +26,18 @@ is_ready_in p job = flag_of job p.fair.tickets p.ready
 -- the job that the worker takes next
 abbrev pub pick_of : PoolsState → ℕ → ℕ → Option ℕ
 pick_of p now w = pick p.layout p.fair (is_ready_in p) (slice_index p.loads) now w
+
+-- whether nothing is picked for the worker
+abbrev pub takes_none_in : PoolsState → ℕ → Bool
+takes_none_in p w = takes_none p.layout p.fair (slice_index p.loads) w
+
+-- whether a ticket has waited long enough for its hint's worker
+abbrev pub has_waited_in : PoolsState → ℕ → Ticket → Bool
+has_waited_in p now k = nat_le (k.created + hold_of (slice_get p.layout.pools k.pool)) now
+
+-- whether the worker may take a ready ticket of its pool
+abbrev pub allows_in : PoolsState → ℕ → ℕ → Ticket → Bool
+allows_in p now w k = allows p.layout p.fair (slice_index p.loads) now w k
 
 -- how many tickets are looked at for it
 abbrev pub looked_of : PoolsState → ℕ → ℕ → ℕ
@@ -42,6 +58,10 @@ opened l = record {
   loads = replicate (length l.workers) 0;
   spare = 0;
 }
+
+-- the same for the declarations of these lists
+abbrev pub opened_for : List PoolDecl → List ClientDecl → List WorkerDecl → PoolsState
+opened_for ps cs ws = opened (layout_of_lists ps cs ws)
 
 -- a job of the operation gets its ticket, for which a spare is used where there is one
 abbrev pub submitted : PoolsState → ℕ → OpDecl → Option (List ℕ) → Bool → ℕ → PoolsState

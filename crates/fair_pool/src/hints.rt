@@ -1,8 +1,8 @@
 //! Which worker has a hint in a pool.
-ghost use Rattle.std.specs.Prelude.{◌≡◌, ◌+◌, ◌<◌, ◌≤◌, map, IfOk, OnOk, MatchResult};
-ghost use Rattle.std.specs.FinMap.{empty, entries, get, insert};
+ghost use Rattle.std.specs.Prelude.{◌≡◌, ◌+◌, ◌<◌, ◌≤◌, map, IfOk, OnOk};
+ghost use Rattle.std.specs.FinMap.{empty, entries, get};
 ghost use Rattle.fair_pool.specs.Hints.{hint_key_cmp, hint_key, hint_entry};
-ghost use Rattle.fair_pool.specs.Kept.{AreHintsKept, IsKnownAt, IsMissingAt};
+ghost use Rattle.fair_pool.specs.Kept.{AreHintsKept, IsSearched, with_known};
 
 use crate::room::insert_within;
 use crate::ticket::HintWorker;
@@ -43,7 +43,7 @@ fn compared(known: &HintWorker, pool: u32, hint: &Text) -> Ordering
 /// The index of a hint among these, which are in order, or the one at which it would come in.
 fn search(known: &[HintWorker], pool: u32, hint: &Text) -> Result<usize, usize>
     requires { AreHintsKept known.now }
-    ensures { MatchResult result (IsKnownAt (record { pool = pool; hint = hint.now }) known.now) (IsMissingAt (record { pool = pool; hint = hint.now }) known.now) }
+    ensures { IsSearched pool hint.now known.now result }
 {
     known.binary_search_by(|other| compared(other, pool, hint))
 }
@@ -89,7 +89,7 @@ impl Hints {
     /// A worker has a hint from now on; there is room for it.
     pub(crate) fn note(&mut self, pool: u32, hint: Text, worker: u32)
         requires { 0 < self.old.room }
-        ensures workers { self.new.workers ≡ insert self.old.workers (record { pool = pool; hint = hint }) worker }
+        ensures workers { self.new.workers ≡ with_known pool hint worker self.old.workers }
         ensures room { self.old.room ≤ self.new.room + 1 }
     {
         match search(self.known.as_slice(), pool, &hint) {

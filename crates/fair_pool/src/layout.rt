@@ -1,7 +1,7 @@
 //! What is declared, by names and by numbers.
 ghost use Rattle.std.specs.Prelude.{◌≡◌, ◌<◌, ◌≤◌, length, slice_get, IfOk};
 ghost use Rattle.op_keys.specs.Names.{client_index};
-ghost use Rattle.fair_pool.specs.Layouts.{pool_number, client_number, worker_number, worker_pool, capacity_of, hold_of};
+ghost use Rattle.fair_pool.specs.Layouts.{layout_of_lists, pool_number, client_number, worker_number, worker_pool, capacity_of, hold_of};
 ghost use Rattle.fair_pool.specs.Sound.{IsLayoutSound};
 
 use op_keys::{ClientDecl, PoolDecl, WorkerDecl, index_of};
@@ -84,8 +84,8 @@ impl Declared {
         clients: &[ClientDecl],
         workers: &[WorkerDecl],
     ) -> Result<Declared, NoMemory>
-        requires { IsLayoutSound (record { pools = pools.now; clients = clients.now; workers = workers.now }) }
-        ensures { IfOk result (λ l. l ≡ record { pools = pools.now; clients = clients.now; workers = workers.now }) }
+        requires { IsLayoutSound (layout_of_lists pools.now clients.now workers.now) }
+        ensures { IfOk result (λ l. l ≡ layout_of_lists pools.now clients.now workers.now) }
     {
         let pools = copy_of_pools(alloc, pools)?;
         let clients = copy_of_clients(alloc, clients)?;

@@ -3,8 +3,8 @@ ghost use Rattle.std.specs.Prelude.{◌≡◌, ◌+◌, ◌<◌, ◌≤◌, ◌^
 ghost use Rattle.std.specs.FinMap.{entries};
 ghost use Rattle.fair_pool.specs.Fair.{cost, has_ticket, hint_worker, with_hint};
 ghost use Rattle.fair_pool.specs.Hints.{hint_entry};
-ghost use Rattle.fair_pool.specs.Layouts.{declared, worker_number, client_number};
-ghost use Rattle.fair_pool.specs.Pools.{opened, submitted, with_ready, without_job, job_taken, job_done, with_pause, rated, pick_of};
+ghost use Rattle.fair_pool.specs.Layouts.{client_named, layout_of_lists, worker_named};
+ghost use Rattle.fair_pool.specs.Pools.{opened_for, submitted, with_ready, without_job, job_taken, job_done, with_pause, rated, pick_of};
 ghost use Rattle.fair_pool.specs.Sound.{IsLayoutSound, IsOpServed, is_rate};
 
 mod picking;
@@ -91,8 +91,8 @@ impl Pools {
         clients: &ListOf<ClientDecl>,
         workers: &ListOf<WorkerDecl>,
     ) -> Result<Pools, NoMemory>
-        requires { IsLayoutSound (record { pools = pools.now; clients = clients.now; workers = workers.now }) }
-        ensures { IfOk result (λ p. p ≡ opened (record { pools = pools.now; clients = clients.now; workers = workers.now })) }
+        requires { IsLayoutSound (layout_of_lists pools.now clients.now workers.now) }
+        ensures { IfOk result (λ p. p ≡ opened_for pools.now clients.now workers.now) }
     {
         let declared = Declared::copy_of(
             alloc,
@@ -120,7 +120,7 @@ impl Pools {
 
     /// The number of the worker of this name; `None` where none is declared. Takes no memory.
     pub fn worker_named(&self, name: &str) -> Option<u32>
-        ensures { result ≡ declared (length self.now.layout.workers) (worker_number self.now.layout.workers name.now) }
+        ensures { result ≡ worker_named self.now.layout name.now }
     {
         let number = self.declared.worker_number(name);
         if number < self.declared.workers().len() {
@@ -133,7 +133,7 @@ impl Pools {
     /// The number of a pool's client of this name; `None` where none is declared. Takes no
     /// memory.
     pub fn client_named(&self, pool: &str, client: &str) -> Option<u32>
-        ensures { result ≡ declared (length self.now.layout.clients) (client_number self.now.layout.clients pool.now client.now) }
+        ensures { result ≡ client_named self.now.layout pool.now client.now }
     {
         let number = self.declared.client_number(pool, client);
         if number < self.declared.clients().len() {

@@ -4,7 +4,7 @@ ghost use Rattle.std.specs.Option.{option_copied};
 ghost use Rattle.std.specs.Vec.{vec_capacity};
 ghost use Rattle.fair_pool.specs.Fair.{ticket_of, has_ticket, with_ticket, without_ticket, job_before};
 ghost use Rattle.fair_pool.specs.Flags.{with_flag, flagged, without_flag};
-ghost use Rattle.fair_pool.specs.Kept.{rank_of, rank_before, queue_of, with_queue, QueueState};
+ghost use Rattle.fair_pool.specs.Kept.{HasRankAt, HasRoomAt, HaveFewRanks, HaveNoRanks, HaveRoom, HaveRoomStill, HaveSameRanks, dequeued, enqueued, rank_of, queue_of};
 ghost use Rattle.fair_pool.specs.Order.{leading, placed, displaced, Rises};
 
 use crate::queue::Queue;
@@ -44,7 +44,7 @@ impl Model for Waiting {
 
 fn empty_queues(alloc: Global, count: usize) -> Result<Vec<Queue>, NoMemory>
     ensures len { IfOk result (λ qs. length qs.items ≡ count) }
-    ensures ranks { IfOk result (λ qs. (i : ℕ) (d : QueueState) → i < length qs.items → (slice_index_or qs.items i d).ranks ≡ []) }
+    ensures ranks { IfOk result (λ qs. HaveNoRanks qs.items) }
 {
     let mut queues = Vec::new(alloc);
     for _n in 0..count {
@@ -54,10 +54,10 @@ fn empty_queues(alloc: Global, count: usize) -> Result<Vec<Queue>, NoMemory>
 }
 
 fn copy_of_queues(alloc: Global, queues: &[Queue], count: usize) -> Result<Vec<Queue>, NoMemory>
-    requires { (i : ℕ) (d : QueueState) → i < length queues.now → length (slice_index_or queues.now i d).ranks ≤ count }
+    requires { HaveFewRanks count queues.now }
     ensures len { IfOk result (λ qs. length qs.items ≡ length queues.now) }
-    ensures ranks { IfOk result (λ qs. (i : ℕ) (d : QueueState) → i < length qs.items → (slice_index_or qs.items i d).ranks ≡ (slice_index_or queues.now i d).ranks) }
-    ensures room { IfOk result (λ qs. (i : ℕ) (d : QueueState) → i < length qs.items → count ≤ (slice_index_or qs.items i d).room) }
+    ensures ranks { IfOk result (λ qs. HaveSameRanks (length qs.items) queues.now qs.items) }
+    ensures room { IfOk result (λ qs. HaveRoom (length qs.items) count qs.items) }
 {
     let mut copies = Vec::new(alloc);
     for queue in queues {
@@ -79,9 +79,9 @@ fn copy_of_tickets(alloc: Global, tickets: &[Ticket]) -> Result<Vec<Ticket>, NoM
 /// Makes room in each queue for so many ranks in all.
 fn reserve_all(queues: &mut Vec<Queue>, count: usize) -> Result<(), NoMemory>
     ensures len { length queues.new.items ≡ length queues.old.items }
-    ensures ranks { (i : ℕ) (d : QueueState) → i < length queues.old.items → (slice_index_or queues.new.items i d).ranks ≡ (slice_index_or queues.old.items i d).ranks }
-    ensures room { (i : ℕ) (d : QueueState) → i < length queues.old.items → (slice_index_or queues.old.items i d).room ≤ (slice_index_or queues.new.items i d).room }
-    ensures ok { OnOk result ((i : ℕ) (d : QueueState) → i < length queues.old.items → count ≤ (slice_index_or queues.new.items i d).room) }
+    ensures ranks { HaveSameRanks (length queues.old.items) queues.old.items queues.new.items }
+    ensures room { HaveRoomStill queues.old.items queues.new.items }
+    ensures ok { OnOk result (HaveRoom (length queues.old.items) count queues.new.items) }
 {
     for i in 0..queues.len() {
         let queue = &mut queues[i];
@@ -93,8 +93,8 @@ fn reserve_all(queues: &mut Vec<Queue>, count: usize) -> Result<(), NoMemory>
 /// Adds a rank to a pool's queue, where its job is ready; there is room for it.
 fn enqueue_ready(queues: &mut Vec<Queue>, pool: usize, rank: Rank, ready: bool)
     requires pool { pool < length queues.old.items }
-    requires room { ready ≡ true → (d : QueueState) → length (slice_index_or queues.old.items pool d).ranks < (slice_index_or queues.old.items pool d).room }
-    ensures { queues.new.items ≡ (if ready then with_queue (placed rank_before rank) pool queues.old.items else queues.old.items) }
+    requires room { ready ≡ true → HasRoomAt pool queues.old.items }
+    ensures { queues.new.items ≡ enqueued ready rank pool queues.old.items }
 {
     if ready {
         let queue = &mut queues[pool];
@@ -105,8 +105,8 @@ fn enqueue_ready(queues: &mut Vec<Queue>, pool: usize, rank: Rank, ready: bool)
 /// Takes a rank from a pool's queue, where its job was ready.
 fn dequeue_ready(queues: &mut Vec<Queue>, pool: usize, rank: Rank, was_ready: bool)
     requires pool { pool < length queues.old.items }
-    requires there { was_ready ≡ true → (d : QueueState) → leading (λ p. rank_before p rank) (slice_index_or queues.old.items pool d).ranks < length (slice_index_or queues.old.items pool d).ranks }
-    ensures { queues.new.items ≡ (if was_ready then with_queue (displaced rank_before rank) pool queues.old.items else queues.old.items) }
+    requires there { was_ready ≡ true → HasRankAt rank pool queues.old.items }
+    ensures { queues.new.items ≡ dequeued was_ready rank pool queues.old.items }
 {
     if was_ready {
         let queue = &mut queues[pool];
@@ -115,11 +115,11 @@ fn dequeue_ready(queues: &mut Vec<Queue>, pool: usize, rank: Rank, was_ready: bo
 }
 
 impl Waiting {
-    ghost use Rattle.fair_pool.specs.Kept.{WaitingState};
+    ghost use Rattle.fair_pool.specs.Kept.{WaitingState, flagged_one, no_tickets, with_one, without_one};
 
     /// No ticket, and queues for so many pools.
     pub(crate) fn new(alloc: Global, pools: usize) -> Result<Waiting, NoMemory>
-        ensures { IfOk result (λ w. w ≡ record { tickets = []; ready = []; pools = pools; spare = 0 }) }
+        ensures { IfOk result (λ w. w ≡ no_tickets pools) }
     {
         Ok(Waiting {
             tickets: Vec::new(alloc),
@@ -178,7 +178,7 @@ impl Waiting {
         requires fresh { has_ticket ticket.job self.old.tickets ≡ false }
         requires pool { ticket.pool < self.old.pools }
         requires room { 0 < self.old.spare }
-        ensures { self.new ≡ record self.old { tickets = with_ticket ticket self.old.tickets; ready = with_flag ticket.job ready self.old.tickets self.old.ready; spare = self.old.spare - 1 } }
+        ensures { self.new ≡ with_one ticket ready self.old }
     {
         let at = self.index_of(ticket.job);
         let pool = ticket.pool as usize;
@@ -192,7 +192,7 @@ impl Waiting {
     /// A job becomes ready, or is no longer.
     pub(crate) fn set_ready(&mut self, job: u64, ready: bool)
         requires { has_ticket job self.old.tickets ≡ true }
-        ensures { self.new ≡ record self.old { ready = flagged job ready self.old.tickets self.old.ready } }
+        ensures { self.new ≡ flagged_one job ready self.old }
     {
         let at = self.index_of(job);
         if self.ready[at] == ready {
@@ -210,7 +210,7 @@ impl Waiting {
     pub(crate) fn remove(&mut self, job: u64) -> Ticket
         requires { has_ticket job self.old.tickets ≡ true }
         ensures ticket { ticket_of job self.old.tickets ≡ Some result }
-        ensures left { self.new ≡ record self.old { tickets = without_ticket job self.old.tickets; ready = without_flag job self.old.tickets self.old.ready } }
+        ensures left { self.new ≡ without_one job self.old }
     {
         let at = self.index_of(job);
         let ticket = self.tickets.remove(at);

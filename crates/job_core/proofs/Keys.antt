@@ -1,5 +1,5 @@
 -- Live jobs in order of their operations and keys: one more, one less, and where one is found.
-use Rattle.std.proofs.Common.{◌≡◌, ℕ, zero, suc, ◌+◌, ◌<◌, ◌≤◌, Bool, true, false, cond, not, ◌&&◌, List, [], ◌∷◌, ◌++◌, map, length, get_or, Some, None, refl, sym, ap, ◌∙◌, subst, arith}
+use Rattle.std.proofs.Common.{◌≡◌, ℕ, zero, suc, ◌<◌, Bool, true, false, cond, not, ◌&&◌, List, [], ◌∷◌, ◌++◌, map, length, get_or, Some, None, refl, sym, ap, ◌∙◌, subst, arith}
 use Rattle.std.proofs.Common.{Less, Equal, Greater}
 use Rattle.std.proofs.lemmas.Bool.{and_from, and_parts, both_ways, eqb-true, eq-eqb, ne_eqb}
 use Rattle.std.specs.Prelude.{◌==◌, if◌then◌else◌, remove, insert}
@@ -25,7 +25,6 @@ use Rattle.core_rules.specs.declared.jobs.Mark.TheVariants.{Unmarked}
 use Rattle.job_core.specs.Keys.{by_keys, is_found_before, is_key_before, key_before, key_cmp, key_rank}
 use Rattle.job_core.proofs.Places.{above_has, has_found}
 use Rattle.job_core.proofs.StageAfter.{none_of}
-use Rattle.core_rules.proofs.Parts.{among}
 use Rattle.value_core.proofs.Basics.{bytes_same, same_bytes}
 use Rattle.core_rules.proofs.Rising.{none_numbered}
 

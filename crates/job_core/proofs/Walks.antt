@@ -1,8 +1,8 @@
 -- Walks in order: where one stops, and that it never has to go back.
-use Rattle.std.proofs.Common.{◌≡◌, ℕ, zero, suc, ◌+◌, ◌<◌, ◌≤◌, Bool, true, false, cond, not, ◌&&◌, ◌||◌, List, [], ◌∷◌, map, length, get_or, Option, Some, None, refl, sym, ap, ◌∙◌, subst, arith}
+use Rattle.std.proofs.Common.{◌≡◌, ℕ, zero, suc, ◌+◌, ◌<◌, ◌≤◌, Bool, true, false, cond, not, List, [], ◌∷◌, map, length, get_or, Option, Some, None, refl, sym, ap, ◌∙◌, subst, arith}
 use Rattle.std.proofs.Common.{Less, Equal, Greater}
 use Rattle.std.proofs.lemmas.Bool.{both_ways, false≢true, true≢false, false_from_ne_true}
-use Rattle.std.specs.Prelude.{◌==◌, filter, if◌then◌else◌, slice_get}
+use Rattle.std.specs.Prelude.{filter, slice_get}
 use Rattle.std.specs.List.{AllByRecursion}
 use Rattle.std.specs.Ordering.{is_lt, ordering_then}
 use Rattle.value_core.specs.declared.state.Triple.{Triple}

@@ -1,10 +1,9 @@
 //! Which job a worker takes next.
-ghost use Rattle.std.specs.Prelude.{◌≡◌, ◌+◌, ◌<◌, ℕ, map, length, nat_le, slice_index, slice_get};
-ghost use Rattle.fair_pool.specs.Fair.{allows, is_paused, is_full, takes_none, job_before, leaves};
-ghost use Rattle.fair_pool.specs.Kept.{allows_job, first_job, looked_for, rank_of, queue_of};
-ghost use Rattle.fair_pool.specs.Layouts.{hold_of, worker_pool};
+ghost use Rattle.std.specs.Prelude.{◌≡◌, ◌+◌, ◌<◌, length, slice_index};
+ghost use Rattle.fair_pool.specs.Fair.{is_paused, is_full, job_before};
+ghost use Rattle.fair_pool.specs.Kept.{allows_job, first_job, looked_by, ranks_for};
 ghost use Rattle.fair_pool.specs.Order.{Rises};
-ghost use Rattle.fair_pool.specs.Pools.{pick_of, looked_of};
+ghost use Rattle.fair_pool.specs.Pools.{allows_in, has_waited_in, looked_of, pick_of, takes_none_in};
 
 use super::Pools;
 use crate::ticket::{Rank, Ticket};
@@ -39,14 +38,14 @@ impl Pools {
 
     /// Whether nothing is picked for a worker.
     fn takes_none(&self, worker: u32) -> bool
-        ensures { result ≡ takes_none self.now.layout self.now.fair (slice_index self.now.loads) worker }
+        ensures { result ≡ takes_none_in self.now worker }
     {
         self.is_paused(worker) || self.is_full(worker)
     }
 
     /// Whether a ticket has waited long enough for its hint's worker.
     fn has_waited(&self, ticket: &Ticket, now: u64) -> bool
-        ensures { result ≡ nat_le (ticket.now.created + hold_of (slice_get self.now.layout.pools ticket.now.pool)) now }
+        ensures { result ≡ has_waited_in self.now now ticket.now }
     {
         match ticket.created.checked_add(self.declared.hold(ticket.pool)) {
             Some(end) => end <= now,
@@ -56,7 +55,7 @@ impl Pools {
 
     /// Whether a worker may take a ready ticket of its pool.
     fn allows(&self, ticket: &Ticket, worker: u32, now: u64) -> bool
-        ensures { result ≡ allows self.now.layout self.now.fair (slice_index self.now.loads) now worker ticket.now }
+        ensures { result ≡ allows_in self.now now worker ticket.now }
     {
         match self.hint_worker(ticket.pool, &ticket.hint) {
             Some(holder) => holder == worker
@@ -79,7 +78,7 @@ impl Pools {
     /// The ranks of the ready tickets of a worker's pool, the next one first.
     fn queue(&self, worker: u32) -> &[Rank]
         requires { worker < length self.now.layout.workers }
-        ensures ranks { result.now ≡ map rank_of (queue_of (worker_pool self.now.layout (slice_get self.now.layout.workers worker)) self.now.fair.tickets self.now.ready) }
+        ensures ranks { result.now ≡ ranks_for self.now worker }
         ensures rising { Rises job_before self.now.fair.tickets }
     {
         self.waiting.queue(self.declared.worker_pool(worker))
@@ -106,7 +105,7 @@ impl Pools {
         steps: &mut Steps<L>,
     ) -> Option<u64>
         ensures answer { result ≡ first_job (allows_job self.now now worker) ranks.now }
-        ensures steps { steps.new ≡ steps.old + looked_for (allows_job self.now now worker) ranks.now }
+        ensures steps { steps.new ≡ steps.old + looked_by self.now now worker ranks.now }
     {
         for rank in ranks {
             steps.tick();

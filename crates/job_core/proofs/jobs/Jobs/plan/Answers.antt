@@ -7,7 +7,7 @@ use Rattle.core_rules.specs.Replies.{with_numbers}
 use Rattle.job_core.specs.Plans.{IsPlanFor}
 use Rattle.core_rules.specs.Own.{rows_made}
 use Rattle.job_core.specs.State.{bare}
-use Rattle.job_core.specs.Wants.{drops_of, lost_of, triples_in}
+use Rattle.job_core.specs.Wants.{lost_of, triples_in}
 use Rattle.job_core.proofs.PlanMade.{Found, declared_in, found_drops, found_lost, found_news, found_next, found_none, found_settled, lost_after}
 use Rattle.job_core.proofs.jobs.Jobs.plan.Goals as goal
 use Rattle.job_core.proofs.jobs.Jobs.plan.Goals.{After-len}

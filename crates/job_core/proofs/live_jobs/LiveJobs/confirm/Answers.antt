@@ -1,4 +1,4 @@
-use Rattle.std.proofs.Common.{◌≡◌, true, refl, ap, sym, ◌∙◌, subst}
+use Rattle.std.proofs.Common.{true, refl}
 use Rattle.core_rules.specs.declared.jobs.Job.{Job}
 use Rattle.job_core.proofs.KeptKeys.{keys_changed}
 use Rattle.job_core.proofs.live_jobs.LiveJobs.confirm.Goals as goal

@@ -1,5 +1,4 @@
-use Rattle.std.proofs.Common.{◌≡◌, ◌++◌, ap, sym, ◌∙◌, arith, length}
-use Rattle.job_core.specs.Keys.{AreKeysKept}
+use Rattle.std.proofs.Common.{◌≡◌, ◌++◌, ap, ◌∙◌, arith, length}
 use Rattle.job_core.proofs.KeptKeys.{keys_length}
 use Rattle.job_core.proofs.live_jobs.LiveJobs.copy.Goals as goal
 

@@ -1,4 +1,4 @@
-use Rattle.std.proofs.Common.{◌≡◌, ◌<◌, ◌^◌, length, None, sym, subst, ap, ◌∙◌, arith}
+use Rattle.std.proofs.Common.{length, sym, subst, ap, ◌∙◌, arith}
 use Rattle.core_rules.specs.Laws.{OneEach}
 use Rattle.std.specs.Prelude.{slice_get}
 use Rattle.fair_pool.proofs.Ordered.{length_in_order}

@@ -1,4 +1,4 @@
-use Rattle.std.proofs.Common.{rules, of_calls, ◌≡◌, ℕ, Bool, sym, subst, ap, ◌∙◌}
+use Rattle.std.proofs.Common.{rules, of_calls, ℕ, Bool, sym, subst, ap, ◌∙◌}
 use Rattle.std.proofs.lemmas.Fn.{always_returns_same}
 use Rattle.std.specs.List.Sorted.{IsPartitionedBy}
 use Rattle.fair_pool.specs.Order.{leading}

@@ -1,4 +1,4 @@
-use Rattle.std.proofs.Common.{◌≡◌, length, subst, ap, arith}
+use Rattle.std.proofs.Common.{length, subst, ap, arith}
 use Rattle.core_rules.specs.Laws.{OneEach, Rising}
 use Rattle.job_core.proofs.KeptKeys.{keys_length}
 use Rattle.job_core.proofs.live_jobs.LiveJobs.len.Goals as goal

@@ -1,8 +1,8 @@
-use Rattle.std.proofs.Common.{◌≡◌, ◌<◌, length, Option, Some, None, sym, ap, ◌∙◌, arith}
+use Rattle.std.proofs.Common.{◌≡◌, Some, None, sym, ap, ◌∙◌, arith}
 use Rattle.std.specs.Option.{option_copied}
 use Rattle.core_rules.specs.Settling.{live_on, on_key}
 use Rattle.core_rules.specs.declared.jobs.Job.{Job}
-use Rattle.job_core.specs.Keys.{by_keys, key_rank}
+use Rattle.job_core.specs.Keys.{key_rank}
 use Rattle.job_core.proofs.KeptKeys.{found_none, past_none, rank_fits}
 use Rattle.job_core.proofs.Keys.{live_only}
 use Rattle.job_core.proofs.live_jobs.LiveJobs.live_on.Goals as goal

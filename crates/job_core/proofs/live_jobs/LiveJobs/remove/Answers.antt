@@ -1,9 +1,8 @@
-use Rattle.std.proofs.Common.{◌≡◌, Some, true, sym, ap, ◌∙◌, subst, arith}
+use Rattle.std.proofs.Common.{◌≡◌, Some, true, sym, ap, ◌∙◌, arith}
 use Rattle.core_rules.specs.Core.{has_job, job_numbered}
 use Rattle.core_rules.specs.declared.jobs.Job.{Job}
 use Rattle.job_core.specs.Keys.{key_rank, rank_found}
-use Rattle.job_core.proofs.Keys.{map_length, rank_of}
-use Rattle.job_core.proofs.KeptKeys.{keys_length, keys_less, rank_within}
+use Rattle.job_core.proofs.KeptKeys.{keys_less, rank_within}
 use Rattle.job_core.proofs.Places.{a_job, found_at}
 use Rattle.job_core.proofs.live_jobs.LiveJobs.remove.Goals as goal
 use Rattle.job_core.proofs.live_jobs.LiveJobs.remove.Goals.{After-key_rank_of-at}

@@ -1,7 +1,5 @@
-use Rattle.std.proofs.Common.{◌≡◌, ◌<◌, ◌≤◌, ◌+◌, ap, sym, ◌∙◌, arith, length, Ok, Err, subst}
-use Rattle.std.specs.Prelude.{OnErr, OnOk, max}
+use Rattle.std.proofs.Common.{sym, arith, subst}
 use Rattle.job_core.specs.Keys.{AreKeysKept}
-use Rattle.job_core.specs.Live.{LiveState}
 use Rattle.job_core.proofs.KeptKeys.{keys_length, keys_reserved}
 use Rattle.job_core.proofs.live_jobs.LiveJobs.reserve.Goals as goal
 

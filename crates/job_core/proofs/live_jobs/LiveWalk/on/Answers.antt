@@ -1,8 +1,7 @@
-use Rattle.std.proofs.Common.{◌≡◌, ℕ, ◌<◌, true, false, cond, length, Option, Some, None, sym, ap, ◌∙◌, arith}
+use Rattle.std.proofs.Common.{◌≡◌, true, cond, Some, None, sym, ap, ◌∙◌, arith}
 use Rattle.std.specs.Prelude.{slice_get}
 use Rattle.std.specs.Option.{option_copied}
 use Rattle.fair_pool.proofs.Ordered.{length_in_order}
-use Rattle.core_rules.specs.Laws.{OneEach}
 use Rattle.core_rules.specs.Settling.{live_on}
 use Rattle.job_core.specs.Keys.{by_keys, is_key_before, key_before, key_rank}
 use Rattle.job_core.specs.Walks.{passes}

@@ -1,4 +1,4 @@
-use Rattle.std.proofs.Common.{◌≡◌, ◌+◌, ◌<◌, ◌≤◌, ◌++◌, [], suc, drop, length, not, Some, None, sym, subst, ap, ◌∙◌, arith}
+use Rattle.std.proofs.Common.{◌≡◌, ◌+◌, ◌≤◌, ◌++◌, [], suc, drop, not, Some, None, sym, subst, ap, ◌∙◌, arith}
 use Rattle.std.specs.Prelude.{slice_get}
 use Rattle.std.specs.List.Sorted.{IsPermutation}
 use Rattle.fair_pool.proofs.Ordered.{length_in_order}
@@ -6,7 +6,7 @@ use Rattle.core_rules.specs.Settling.{stays}
 use Rattle.core_rules.specs.declared.jobs.Job.{Job}
 use Rattle.term_core.specs.Counts.{is_wanted}
 use Rattle.job_core.specs.Keys.{by_keys, key_before}
-use Rattle.job_core.specs.Walks.{AreUnwanted, wants_passed}
+use Rattle.job_core.specs.Walks.{wants_passed}
 use Rattle.job_core.specs.Wants.{TriplesRise, drops_of, is_lost_by, lost_of, triples_in}
 use Rattle.job_core.proofs.Merging.{ahead_next, append_none, drop_all, drops_one, found_over, found_step, get_some, lost_one, no_drop, no_loss}
 use Rattle.job_core.proofs.SortedNumbers.{sorted_numbers}

@@ -1,9 +1,6 @@
-use Rattle.std.proofs.Common.{◌≡◌, ◌++◌, ◌≤◌, drop, Option, Some, None}
+use Rattle.std.proofs.Common.{◌≡◌, ◌++◌, drop}
 use Rattle.std.specs.Prelude.{slice_get}
-use Rattle.value_core.specs.declared.state.Triple.{Triple}
-use Rattle.core_rules.specs.declared.jobs.Job.{Job}
 use Rattle.job_core.specs.Keys.{by_keys}
-use Rattle.job_core.specs.Walks.{wants_passed}
 use Rattle.job_core.specs.Wants.{drops_of, lost_of, triples_in}
 use Rattle.job_core.proofs.Walks.{IsAhead}
 use Rattle.job_core.proofs.wants.Unwanted.find.Given as goal

@@ -1,10 +1,9 @@
-use Rattle.std.proofs.Common.{◌≡◌, ℕ, true, false, length, sym, subst, ap, ◌∙◌, arith}
+use Rattle.std.proofs.Common.{ℕ, length, sym, subst, ap, ◌∙◌}
 use Rattle.std.proofs.lemmas.Bool.{le-ltb}
-use Rattle.std.specs.Prelude.{slice_get}
 use Rattle.value_core.specs.declared.state.Triple.{Triple}
 use Rattle.value_core.specs.Orders.{same_triple}
 use Rattle.term_core.specs.Counts.{is_wanted}
-use Rattle.job_core.specs.Walks.{is_before, passes, wants_passed}
+use Rattle.job_core.specs.Walks.{is_before, wants_passed}
 use Rattle.job_core.specs.Wants.{TriplesRise, triples_in}
 use Rattle.job_core.proofs.Walks.{walk_ends, walk_on}
 use Rattle.job_core.proofs.Wanted.{wanted_here, wanted_past}

@@ -1,4 +1,4 @@
-use Rattle.std.proofs.Common.{◌≡◌, ℕ, length, sym, ap, ◌∙◌, is_lt}
+use Rattle.std.proofs.Common.{ℕ, length, sym, ap, ◌∙◌, is_lt}
 use Rattle.std.proofs.lemmas.Bool.{le-ltb}
 use Rattle.value_core.specs.declared.state.Triple.{Triple}
 use Rattle.job_core.specs.Walks.{is_before, passes}
