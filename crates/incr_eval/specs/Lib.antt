@@ -1,0 +1,13 @@
+pub mod Views
+pub mod Visits
+pub mod Tables
+pub mod Again
+pub mod Traces
+pub mod KnownChanges
+pub mod Plans
+pub mod Mapping
+pub mod PatchedTrees
+pub mod Pooled
+pub mod Sampling
+pub mod Growing
+pub mod Renewals
