@@ -6,3 +6,4 @@ pub mod Turns
 pub mod LineLoop
 pub mod Plans
 pub mod SetBack
+pub mod Evaluating

@@ -2,6 +2,7 @@
 #![tactic(auto)]
 
 mod controls;
+mod evaluation;
 mod laws;
 mod session;
 mod stop;

@@ -7,31 +7,7 @@ use Rattle.value_core.specs.Same.{same}
 use Rattle.value_core.proofs.Sames.{same_true}
 use Rattle.std.proofs.lemmas.Bool.Decides.{nat_tests}
 use Rattle.core_rules.specs.Replies.{changed_from}
-use Rattle.report_text.specs.LastShown.{is_shown, last_shown, ShowsAll}
-
--- ---- the loop over the nodes
-
-drop_none : (n : ℕ) → drop {A = State} n [] ≡ []
-drop_none zero = refl
-drop_none (suc n) = refl
-
--- the changes from a node on are the one of this node, if it has one, and those of the later nodes
-changed_here : (at n : ℕ) (before : List State) (s : State) (ss : List State) → changed_from at (drop n before) (s ∷ ss)
-    ≡ (if is_shown (slice_get before n) s then changed_from (at + 1) (drop (n + 1) before) ss else (at, s) ∷ changed_from (at + 1) (drop (n + 1) before) ss)
-changed_here at zero [] s ss = refl
-changed_here at zero (b ∷ bs) s ss = refl
-changed_here at (suc n) [] s ss = rw (drop_none (suc n + 1)) refl
-changed_here at (suc n) (b ∷ bs) s ss = let next : suc n + 1 ≡ suc (n + 1) = omega arith in rw next (changed_here at n bs s ss)
-
--- the changes of the nodes from one on, by the state that was shown for each
-abbrev pub changes_at : ℕ → List State → List State → List (ℕ × State)
-changes_at at before [] = []
-changes_at at before (s ∷ ss) = if is_shown (slice_get before at) s then changes_at (at + 1) before ss else (at, s) ∷ changes_at (at + 1) before ss
-
-pub changes_are : (at : ℕ) (before ss : List State) → changes_at at before ss ≡ changed_from at (drop at before) ss
-changes_are at before [] = refl
-changes_are at before (s ∷ ss) =
-    ap (λ (l : List (ℕ × State)). if is_shown (slice_get before at) s then l else (at, s) ∷ l) (changes_are (at + 1) before ss) ∙ sym (changed_here at at before s ss)
+use Rattle.report_text.specs.LastShown.{last_shown, ShowsAll}
 
 -- ---- the state that was last shown
 

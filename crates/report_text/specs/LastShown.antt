@@ -1,14 +1,7 @@
 -- What the lines of a version show.
-use Rattle.std.specs.Prelude.{◌≡◌, ℕ, ◌<◌, ◌==◌, Bool, false, if◌then◌else◌, List, [], ◌∷◌, length, Option, Some, None, slice_get}
+use Rattle.std.specs.Prelude.{◌≡◌, ℕ, ◌<◌, ◌==◌, if◌then◌else◌, List, [], ◌∷◌, length, Option, Some, None, slice_get}
 use Rattle.value_core.specs.declared.state.State.{State}
-use Rattle.value_core.specs.Codes.{state_code}
-use Rattle.value_core.specs.Same.{same}
 use Rattle.core_rules.specs.Replies.{changed_from}
-
--- whether the state shown is this one
-abbrev pub is_shown : Option State → State → Bool
-is_shown None s = false
-is_shown (Some shown) s = same state_code shown s
 
 -- the state that was last shown for a node: the one known, or that of its last line
 abbrev pub last_shown : Option State → ℕ → List (ℕ × State) → Option State

@@ -1,8 +1,6 @@
 //! The lines of a session.
-ghost use Rattle.std.specs.Prelude.{◌≡◌, IfOk, IfSome, slice_get};
-ghost use Rattle.core_rules.specs.Replies.{changed_from};
+ghost use Rattle.std.specs.Prelude.{◌≡◌, IfOk, IfSome};
 ghost use Rattle.report_text.specs.Lines.{node_line, node_name, refusal_words, refused_line, stage_word, state_text, version_text};
-ghost use Rattle.report_text.specs.LastShown.{is_shown};
 ghost use Rattle.report_text.specs.inside.Writers.{Adds};
 
 use crate::names::name_at;
@@ -67,34 +65,19 @@ fn write_line(
     out.push_str("\n")
 }
 
-/// Whether the state that was shown for a node is this one.
-fn is_shown(before: &[State], node: usize, state: &State) -> bool
-    ensures { result ≡ is_shown (slice_get before.now node) state.now }
-{
-    if node < before.len() {
-        before[node].is(state)
-    } else {
-        false
-    }
-}
-
-/// The version's number, and a line for each node whose state isn't the one shown before.
+/// The version's number, and a line for each of these nodes, which are by their numbers in file order.
 #[tactic(auto, unfolding(crate::specs::Lines::version_text))]
 pub fn version_lines(
     alloc: Global,
     program: &Program,
     version: u64,
-    before: &[State],
-    states: &[State],
+    changed: &[(u32, State)],
 ) -> Result<ListOf<u8>, NoMemory>
-    ensures { IfOk result (λ text. text ≡ version_text program.now version
-        (changed_from 0 before.now states.now)) }
+    ensures { IfOk result (λ text. text ≡ version_text program.now version changed.now) }
 {
     let mut out = format!(in alloc; "version {version}\n")?;
-    for (node, state) in states.iter().enumerate() {
-        if !is_shown(before, node, state) {
-            write_line(&mut out, program, node, state)?;
-        }
+    for node in changed {
+        write_line(&mut out, program, node.0 as usize, &node.1)?;
     }
     Ok(ListOf::from_vec(out.into_bytes()))
 }

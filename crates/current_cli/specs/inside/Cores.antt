@@ -48,12 +48,6 @@ empty_world = record { entries = []; unstarted = [] }
 unfoldable pub states_over : Program → List Value → List State
 states_over p inputs = (fresh p inputs empty_world).states
 
--- what the fields of a core keep
-pub record IsKept (p : Program) (inputs : List Value) (states : List State) : Type 0 where
-  pub quiet : LooksUpNothing p
-  pub each_input : length inputs ≡ length p.inputs
-  pub fresh_states : states ≡ states_over p inputs
-
 -- the next version, in which an input has another value
 abbrev pub with_input : CoreState → ℕ → Value → CoreState
 with_input s index v = record s { version = s.version + 1; inputs = slice_set s.inputs index v }

@@ -1,12 +1,10 @@
 use Rattle.std.proofs.Common.{◌≡◌, ◌++◌, drop}
 use Rattle.std.specs.List.{flat_map}
 use Rattle.std.specs.String.{string_bytes}
-use Rattle.core_rules.specs.Replies.{changed_from}
-use Rattle.report_text.proofs.LastShown.{changes_at}
 use Rattle.report_text.specs.Lines.{node_line}
 use Rattle.report_text.proofs.lines.version_lines.Given as goal
 
 abbrev pub invariant-loop-node : goal.invariant-loop-node
 invariant-loop-node l =
-    string_bytes l.out ++ flat_map (node_line l.program) (changes_at l.node l.before (drop l.node l.states))
-    ≡ string_bytes l.initial.out ++ flat_map (node_line l.program) (changed_from 0 l.before l.states)
+    string_bytes l.out ++ flat_map (node_line l.program) (drop l.node-index l.changed)
+    ≡ string_bytes l.initial.out ++ flat_map (node_line l.program) l.changed

@@ -8,7 +8,7 @@ use Rattle.current_cli.proofs.versions.Core.next_version.Goals as goal
 pub invariant_of-self-in-Err : goal.invariant_of-self-in-Err
 invariant_of-self-in-Err c =
     let same = set_back _ c.args.index c.replace-before.new.dest c.replace-before.result _ (rw (← c.self.view_is) at c.requires.known) (c.replace-before.ensures.value ∙ c.index_mut.ensures.value) in
-    rw same c.self.invariant
+    rw (same, c.in-Err.ensures.same) c.self.invariant
 
 pub returns-in-Err-clause-same : goal.returns-in-Err-clause-same
 returns-in-Err-clause-same c =
