@@ -1,0 +1,16 @@
+pub mod EntryLaws
+pub mod LoadLaws
+pub mod MoveLaws
+pub mod RowLaws
+pub mod TableLaws
+pub mod KeepLaws
+pub mod HeldLaws
+pub mod OpenLaws
+pub mod EveryEntry
+pub mod TablesKept
+pub mod ReadLiterals
+pub mod ChainLaws
+pub mod StepsStored
+pub mod LexedTexts
+pub mod PrintedReads
+pub mod ChainPremises

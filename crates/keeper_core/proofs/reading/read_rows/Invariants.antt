@@ -1,0 +1,12 @@
+use Rattle.std.proofs.Common.{◌≡◌, ◌+◌, ◌++◌, None, drop, map}
+use Rattle.std.specs.Option.{option_copied}
+use Rattle.keeper_core.specs.Durables.{row_of}
+use Rattle.keeper_core.specs.WellFormed.{first_refused, is_result}
+use Rattle.keeper_core.proofs.reading.read_rows.Given as goal
+
+abbrev pub invariant-loop-row : goal.invariant-loop-row
+invariant-loop-row l = record {
+  number : l.number ≡ l.row-index + 1;
+  refused : first_refused (is_result l.meta.next_job) (option_copied l.before) l.number (drop l.row-index l.rows) ≡ first_refused (is_result l.meta.next_job) None 1 l.rows;
+  results : l.results ++ map row_of (drop l.row-index l.rows) ≡ map row_of l.rows;
+}

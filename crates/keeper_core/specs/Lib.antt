@@ -1,0 +1,13 @@
+pub mod Contents
+pub mod Commits
+pub mod Migrations
+pub mod WellFormed
+pub mod Durables
+pub mod Openings
+pub mod Printables
+pub mod EitherSchema
+pub mod KeeperCalls
+pub mod HeldByPath
+pub mod Laws
+pub mod Chains
+pub mod inside
