@@ -4,8 +4,7 @@ ghost use Rattle.core_rules.specs.Replies.{changed_from};
 ghost use Rattle.incr_eval.specs.Plans.{IsPlanOf, IsSmall};
 ghost use Rattle.incr_eval.specs.Visits.{states};
 ghost use Rattle.report_text.specs.Lines.{version_text};
-ghost use Rattle.current_cli.specs.inside.Cores.{states_over};
-ghost use Rattle.current_cli.specs.inside.Evaluated.{IsEvaluated, WasEvaluated};
+ghost use Rattle.current_cli.specs.inside.Evaluated.{IsAfter, IsBefore, IsEvaluated, change_text};
 
 use incr_eval::{Changes, EvalPlan, Live};
 use report_text::version_lines;
@@ -91,8 +90,8 @@ fn plan_counted<L: Ledger>(
     requires parts { blank.parts ≡ L.parts }
     requires some { 0 < blank.parts }
     requires small { IsSmall change.now.program.now }
-    requires was { WasEvaluated change.now.program.now change.now.index change.now.inputs.now live.old.trees }
-    ensures evaluated { IfOk result (λ plan. IsEvaluated change.now.program.now change.now.inputs.now plan.trees) }
+    requires was { IsBefore change.now live.old.trees }
+    ensures evaluated { IfOk result (λ plan. IsAfter change.now plan.trees) }
     ensures made { IfOk result (IsPlanOf live.new) }
     ensures same { live.new.trees ≡ live.old.trees }
 {
@@ -118,7 +117,8 @@ fn planned_lines(
     change: &Change<'_>,
     plan: &EvalPlan,
 ) -> Result<ListOf<u8>, NoMemory>
-    ensures { IfOk result (λ text. text ≡ version_text change.now.program.now change.now.version plan.now.changed) }
+    ensures { IfOk result (λ text. text ≡
+        version_text change.now.program.now change.now.version plan.now.changed) }
 {
     let changed = plan.changed()?;
     version_lines(alloc, change.program, change.version, changed.as_slice())
@@ -132,10 +132,9 @@ pub(crate) fn advance(
     change: &Change<'_>,
 ) -> Result<ListOf<u8>, NoMemory>
     requires small { IsSmall change.now.program.now }
-    requires was { WasEvaluated change.now.program.now change.now.index change.now.inputs.now live.old.trees }
-    ensures evaluated { OnOk result (IsEvaluated change.now.program.now change.now.inputs.now live.new.trees) }
-    ensures lines { IfOk result (λ text. text ≡ version_text change.now.program.now change.now.version
-        (changed_from 0 (states live.old.trees) (states_over change.now.program.now change.now.inputs.now))) }
+    requires was { IsBefore change.now live.old.trees }
+    ensures evaluated { OnOk result (IsAfter change.now live.new.trees) }
+    ensures lines { IfOk result (λ text. text ≡ change_text change.now live.old.trees) }
     ensures same { OnErr result (live.new.trees ≡ live.old.trees) }
 {
     let plan = plan_counted::<Brand>(alloc, live, change, Blank::new(1))?;

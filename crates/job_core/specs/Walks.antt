@@ -43,10 +43,11 @@ abbrev pub IsWalked : List Job → ℕ → Option Triple → Type 0
 IsWalked js passed (Some t) = passed ≤ key_rank t.op t.key js
 IsWalked js passed None = Unit {0}
 
--- what is found, with a job to which nothing refers
+-- what is found to go, with a job to which nothing refers
 abbrev pub with_drop : Job → Unwanted → List ℕ
 with_drop j u = u.drops.items ++ drops_of [] (j ∷ [])
 
+-- what is found to be marked, with such a job
 abbrev pub with_loss : List OpDecl → Job → Unwanted → List ℕ
 with_loss ops j u = u.lost.items ++ lost_of [] ops (j ∷ [])
 
