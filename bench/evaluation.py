@@ -13,6 +13,8 @@ import sys
 import tempfile
 import time
 
+from running import laid_out
+
 RUNS = 3
 CASES = [("nodes", 300), ("list", 3000)]
 BELOW = ["value_core", "op_keys", "term_core"]
@@ -20,21 +22,9 @@ BELOW = ["value_core", "op_keys", "term_core"]
 
 def build(top, folder):
     here = os.path.join(top, "bench", "evaluation")
-    for crate in BELOW:
-        shutil.copytree(
-            os.path.join(top, "crates", crate),
-            os.path.join(folder, "crates", crate),
-            ignore=shutil.ignore_patterns("out", "must-fail"),
-        )
-    ours = os.path.join(folder, "crates", "evaluations")
-    os.makedirs(os.path.join(ours, "src"))
-    shutil.copy(os.path.join(here, "main.rattle"), os.path.join(ours, "src", "main.rt"))
+    ours = laid_out(folder, BELOW, "evaluations", "evaluation")
     os.makedirs(os.path.join(ours, "proofs", "run"))
     shutil.copy(os.path.join(here, "ghosts.txt"), os.path.join(ours, "proofs", "run", "Invariants.antt"))
-    with open(os.path.join(folder, "crates.txt"), "w", encoding="utf-8") as f:
-        f.write("value_core: sqlite_items\nop_keys: value_core\n")
-        f.write("term_core: value_core op_keys sqlite_items\n")
-        f.write("evaluations: value_core op_keys term_core sqlite_items\n")
     subprocess.run(["rt", "run", "--", "list", "0"], cwd=ours, check=True)
     peer = os.path.join(folder, "plain")
     subprocess.run(["rustc", "-O", "-o", peer, os.path.join(here, "plain.rs")], check=True)

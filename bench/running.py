@@ -1,5 +1,6 @@
 """What the measurements of the program share: where it was built, and the fastest of several runs."""
 import os
+import shutil
 import subprocess
 import sys
 import time
@@ -25,3 +26,23 @@ def fastest(runs, words, given=os.devnull, taken=os.devnull, folder=None):
             sys.exit(f"{words[0]} ended with status {status}")
         best = took if best is None else min(best, took)
     return best
+
+
+def laid_out(folder, crates, name, source):
+    """Copies these crates and a program of this name and source into a folder, and answers where the program is."""
+    top = os.path.dirname(os.path.dirname(os.path.abspath(__file__)))
+    for crate in crates:
+        shutil.copytree(
+            os.path.join(top, "crates", crate),
+            os.path.join(folder, "crates", crate),
+            ignore=shutil.ignore_patterns("out", "must-fail"),
+        )
+    ours = os.path.join(folder, "crates", name)
+    os.makedirs(os.path.join(ours, "src"))
+    shutil.copy(os.path.join(top, "bench", source, "main.rattle"), os.path.join(ours, "src", "main.rt"))
+    with open(os.path.join(top, "crates.txt"), encoding="utf-8") as f:
+        lines = [line for line in f if line.split(":")[0] in crates]
+    with open(os.path.join(folder, "crates.txt"), "w", encoding="utf-8") as f:
+        f.writelines(lines)
+        f.write(f"{name}: {' '.join(crates)} sqlite_items\n")
+    return ours
