@@ -1,14 +1,12 @@
 -- What replies tell of states that are written out, and how an input is set to a text.
-use Rattle.std.proofs.Common.{◌≡◌, ℕ, ◌+◌, Bool, true, false, List, [], ◌∷◌, None, refl, ap, sym, ◌∙◌}
+use Rattle.std.proofs.Common.{◌≡◌, ℕ, ◌+◌, Bool, true, false, List, [], ◌∷◌, None, refl, ap, ◌∙◌}
 use Rattle.std.specs.Prelude.{if◌then◌else◌}
-use Rattle.value_core.specs.declared.value.Value.{Value}
 use Rattle.value_core.specs.declared.value.Value as V
 use denote.Hole.Carrier as C
-use Rattle.value_core.specs.declared.value.Kind.{Kind-F, fold-roll-Kind}
 use Rattle.value_core.specs.declared.value.Kind.TheVariants as kind
 use Rattle.value_core.specs.declared.value.Value.TheVariants as value
 use Rattle.value_core.specs.Parts.{text_in}
-use Rattle.value_core.specs.Values.{fits_kind, fits_step}
+use Rattle.value_core.proofs.KindLaws.{fits_words}
 use Rattle.value_core.specs.declared.state.State.TheVariants.{Fine}
 use Rattle.value_core.specs.declared.state.State.{State}
 use Rattle.value_core.specs.Codes.{state_code}
@@ -40,14 +38,10 @@ pub other_text : (t u : List ℕ) → (t ≡ u → ⊥) → changed_from 0 (Fine
 unfolding V.out-Value C.out
 other_text t u h = apart (Fine (value.Words t)) (Fine (value.Words u)) (λ e. h (ap text_shown e))
 
-text_fits : (t : List ℕ) → fits_kind kind.Text (value.Words t) ≡ true
-unfolding V.out-Value C.out
-text_fits t = ap (λ k. fits_kind k (value.Words t)) (sym kind.rolls-Text) ∙ ap (λ (f : Value → Bool). f (value.Words t)) (fold-roll-Kind (Value → Bool) fits_step Kind-F.Text)
-
 -- a text may be the value of an input that is declared with one
 text_is_taken : (name declared t : List ℕ) → takes (record { name = name; value = value.Words declared; watch = None }) (value.Words t) ≡ true
 unfolding V.out-Value C.out
-text_is_taken name declared t = text_fits t
+text_is_taken name declared t = fits_words t
 
 -- such an input is set to a text
 pub sets : {c : Change} (name declared t : List ℕ) → (if takes (record { name = name; value = value.Words declared; watch = None }) (value.Words t) then Makes c else Refuses refusal.WrongKind) ≡ Makes c

@@ -1,5 +1,5 @@
 -- What a step stores makes the stored part of the new state.
-use Rattle.std.proofs.Common.{◌≡◌, ℕ, zero, suc, ◌+◌, ◌≤◌, Bool, true, false, List, [], ◌∷◌, map, Option, Some, None, is_some, refl, ap, sym, ◌∙◌, arith}
+use Rattle.std.proofs.Common.{◌≡◌, ℕ, zero, suc, ◌+◌, Bool, true, false, List, [], ◌∷◌, map, Option, Some, None, is_some, refl, ap, sym, ◌∙◌, arith}
 use Rattle.std.specs.Prelude.{if◌then◌else◌, length, nat_lt, slice_get, slice_set}
 use Rattle.std.specs.FinMap.{get, insert, remove}
 use Rattle.std.specs.Str.{bytes_eq}
@@ -9,6 +9,7 @@ use Rattle.value_core.specs.declared.value.Value.{Value}
 use Rattle.value_core.specs.Printed.{printed}
 use Rattle.op_keys.specs.declared.order.Exit.{Exit}
 use Rattle.op_keys.specs.Names.{index_named}
+use Rattle.op_keys.proofs.Indices.{index_from}
 use Rattle.term_core.specs.declared.program.InputDecl.{InputDecl}
 use Rattle.fair_pool.specs.Sound.{is_rate}
 use Rattle.sched_rows.specs.declared.row.Row.{Row}
@@ -63,13 +64,6 @@ alone : (s : CoreState) (c : Change) → c.delta.input ≡ None → c.delta.put 
 alone s c i p v program inputs rows = stores_rows s c None None i p v program inputs rows
 
 -- ---- inputs
-
-index_from : (at : ℕ) (ns : List (List ℕ)) (n : List ℕ) → at ≤ index_named at ns n
-index_from at [] n = omega arith
-index_from at (m ∷ ns) n = elim (bytes_eq m n) as (λ b. at ≤ (if b then at else index_named (at + 1) ns n)) [
-  | true ↦ omega arith
-  | false ↦ let h = index_from (at + 1) ns n in omega arith
-]
 
 named_set : (at k : ℕ) (ds : List InputDecl) (vs : List Value) (name : List ℕ) (v : Value) → index_named at (map (λ d. d.name) ds) name ≡ at + k →
     replaced (name, printed v) (printed_values (named_values ds vs)) ≡ printed_values (named_values ds (slice_set vs k v))

@@ -1,17 +1,14 @@
 -- Whether a visit or one below it passes a test, by its read and by those below it in order.
-use Rattle.std.proofs.Common.{◌≡◌, ℕ, zero, suc, ◌+◌, Bool, true, false, ◌||◌, List, [], ◌∷◌, map, drop, slice_get, Some, refl, ap, sym, ◌∙◌, add-one}
+use Rattle.std.proofs.Common.{◌≡◌, ℕ, zero, suc, ◌+◌, Bool, true, false, ◌||◌, List, [], ◌∷◌, drop, slice_get, Some, refl, ap, ◌∙◌, add-one}
 use Rattle.std.specs.List.{list_any}
+use Rattle.value_core.proofs.Basics.{any_mapped}
 use Rattle.incr_eval.specs.Visits.{Test, bodies_of, parts_of, passes, passes_step}
 use Rattle.incr_eval.specs.declared.visit.Visit.{Visit}
 use Rattle.incr_eval.specs.declared.visit.Visit.TheViews.{out-Visit}
 use Rattle.incr_eval.specs.declared.visit.Visit.TheFolds.{fold_out-Visit}
 
-any_map : {A : Type 0} (p : A → Bool) (xs : List A) → list_any (λ b. b) (map p xs) ≡ list_any p xs
-any_map p [] = refl
-any_map p (x ∷ xs) = ap (λ (b : Bool). p x || b) (any_map p xs)
-
 pub passes_is : (test : Test) (v : Visit) → passes test v ≡ (test (out-Visit v).read || (list_any (passes test) (parts_of v) || list_any (passes test) (bodies_of v)))
-passes_is test v = fold_out-Visit Bool (passes_step test) v ∙ rw (any_map (passes test) (parts_of v), any_map (passes test) (bodies_of v)) refl
+passes_is test v = fold_out-Visit Bool (passes_step test) v ∙ rw (any_mapped (passes test) (parts_of v), any_mapped (passes test) (bodies_of v)) refl
 
 any_at : {A : Type 0} (p : A → Bool) (xs : List A) (i : ℕ) (x : A) → slice_get xs i ≡ Some x → list_any p (drop i xs) ≡ (p x || list_any p (drop (suc i) xs))
 any_at p [] i x e = absurd cc

@@ -1,10 +1,11 @@
 -- What a patch makes, told by its kind.
 use Rattle.std.proofs.Common.{◌≡◌, ℕ, zero, suc, ◌<◌, arith, List, [], ◌∷◌, length, map, get_or, Option, Some, None, slice_get, refl, ap, sym, ◌∙◌}
-use Rattle.incr_eval.proofs.PooledTrees.{length-map, map_at, seen_again}
+use Rattle.std.proofs.lemmas.List.{length-map}
+use Rattle.incr_eval.proofs.PooledTrees.{map_at, seen_again}
 use Rattle.incr_eval.specs.Again.{old_bodies, old_parts}
 use Rattle.incr_eval.specs.PatchedTrees.{Patching, body_at, no_visit, patched, patched_bodies, patched_parts, patched_step, visit_of, visit_or_none}
 use Rattle.incr_eval.specs.declared.instance.Instance.{Instance}
-use Rattle.incr_eval.specs.declared.patch.Patch.{Patch, Patch-F, roll-Patch, fold-roll-Patch}
+use Rattle.incr_eval.specs.declared.patch.Patch.{Patch, Patch-F, fold-roll-Patch}
 use Rattle.incr_eval.specs.declared.patch.Patch.TheVariants as patch
 use Rattle.incr_eval.specs.declared.visit.Visit.{Visit}
 use Rattle.incr_eval.specs.declared.visit.Visit.TheOpen.{Visit-F}
@@ -75,7 +76,7 @@ length-made (f ∷ fs) [] = ap suc (length-made fs [])
 length-made (f ∷ fs) (v ∷ vs) = ap suc (length-made fs vs)
 
 pub length-parts : (ps : List Patch) (olds : List Visit) → length (patched_parts (map patched ps) olds) ≡ length ps
-length-parts ps olds = length-made (map patched ps) olds ∙ length-map patched ps
+length-parts ps olds = length-made (map patched ps) olds ∙ length-map ps patched
 
 length-made_bodies : (fs : List Patching) (from : List (Option ℕ)) (olds : List Visit) → length (patched_bodies fs from olds) ≡ length fs
 length-made_bodies [] from olds = refl
@@ -83,7 +84,7 @@ length-made_bodies (f ∷ fs) [] olds = ap suc (length-made_bodies fs [] olds)
 length-made_bodies (f ∷ fs) (o ∷ os) olds = ap suc (length-made_bodies fs os olds)
 
 pub length-bodies : (ps : List Patch) (from : List (Option ℕ)) (olds : List Visit) → length (patched_bodies (map patched ps) from olds) ≡ length ps
-length-bodies ps from olds = length-made_bodies (map patched ps) from olds ∙ length-map patched ps
+length-bodies ps from olds = length-made_bodies (map patched ps) from olds ∙ length-map ps patched
 
 made_at : (fs : List Patching) (olds : List Visit) (i : ℕ) (f : Patching) → slice_get fs i ≡ Some f → slice_get (patched_parts fs olds) i ≡ Some (f (slice_get olds i))
 made_at [] olds i f e = absurd cc

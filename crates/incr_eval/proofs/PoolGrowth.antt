@@ -1,14 +1,15 @@
 -- A pool that has grown shows each tree that was in it as before.
-use Rattle.std.proofs.Common.{◌≡◌, ℕ, ◌+◌, Bool, true, false, ◌&&◌, ◌||◌, ◌==◌, List, [], ◌∷◌, map, cond, Option, Some, None, is_some, option_map, refl, ap, sym, ◌∙◌, subst, arith}
+use Rattle.std.proofs.Common.{◌≡◌, ℕ, ◌+◌, Bool, true, false, ◌||◌, ◌==◌, List, [], ◌∷◌, map, cond, Option, Some, None, is_some, option_map, refl, ap, sym, ◌∙◌, subst, arith}
 use Rattle.std.proofs.lemmas.Bool.Decides.{nat_tests}
 use Rattle.std.specs.Cmp.{nat_cmp_total}
-use Rattle.std.specs.FinMap.{get, get-insert, insert, len, len-insert}
+use Rattle.std.specs.FinMap.{get, get-insert, len, len-insert}
 use Rattle.std.specs.List.{list_all}
 use Rattle.std.specs.Ordering.{eq_by_cmp, nat_cmp}
+use Rattle.scope_pool.proofs.StandingLaws.{eq_same}
 use Rattle.scope_pool.specs.Region.{IsOpen, Region, ScopedItem, item_at, opened, put_at}
 use Rattle.incr_eval.proofs.PooledTrees.{and-true}
 use Rattle.incr_eval.proofs.ChangesRight.{all_both, and-both}
-use Rattle.incr_eval.specs.Pooled.{IsGrown, is_live, seen, seen_step, is_pooled, pooled_step, visit_at}
+use Rattle.incr_eval.specs.Pooled.{IsGrown, is_live, seen, seen_step, is_pooled, pooled_step}
 use Rattle.incr_eval.specs.declared.instance.Instance.{Instance}
 use Rattle.incr_eval.specs.declared.twig.Twig.{Twig}
 use Rattle.incr_eval.specs.declared.twig.Twig.TheOpen.{Twig-F}
@@ -72,9 +73,6 @@ module _ (r r' : Region Instance) (grown : IsGrown r r') where
       let here = tree_stays t a.0 in
       let rest = trees_stay ts a.1 in
       record { stand = and-both _ _ here.is_pooled rest.stand; seen = let x = here.seen in let y = rest.seen in cc }
-
-eq_same : (n : ℕ) → eq_by_cmp nat_cmp n n ≡ true
-eq_same n = grind (arith, nat_tests)
 
 equal : (m n : ℕ) → eq_by_cmp nat_cmp m n ≡ true → m ≡ n
 equal m n e = grind (arith, nat_tests)

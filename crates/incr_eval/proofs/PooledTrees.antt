@@ -1,13 +1,12 @@
 -- A tree that is in a pool, by its place and its parts.
-use Rattle.std.proofs.Common.{◌≡◌, ℕ, zero, suc, ◌+◌, ◌<◌, ◌≤◌, Bool, true, false, ◌&&◌, List, [], ◌∷◌, map, sum, slice_get, Option, Some, None, is_some, IsSome, option_map, length, refl, ap, sym, ◌∙◌, subst, arith}
+use Rattle.std.proofs.Common.{◌≡◌, ℕ, zero, suc, ◌<◌, ◌≤◌, Bool, true, false, ◌&&◌, List, [], ◌∷◌, map, sum, slice_get, Option, Some, None, IsSome, option_map, refl, ap, sym, ◌∙◌, subst, arith}
 use Rattle.std.specs.List.{list_all}
 use Rattle.std.specs.FinMap.{get}
 use Rattle.scope_pool.specs.Region.{IsLive, Region, ScopedItem, item_at}
 use Rattle.incr_eval.specs.PatchedTrees.{visit_of}
-use Rattle.incr_eval.specs.Pooled.{is_live, seen, seen_step, is_pooled, pooled_step, visit_at}
+use Rattle.incr_eval.specs.Pooled.{seen, seen_step, is_pooled, pooled_step, visit_at}
 use Rattle.incr_eval.specs.declared.instance.Instance.{Instance}
 use Rattle.incr_eval.specs.declared.twig.Twig.{Twig}
-use Rattle.incr_eval.specs.declared.twig.Twig.TheOpen.{Twig-F}
 use Rattle.incr_eval.specs.declared.twig.Twig.TheViews.{out-Twig}
 use Rattle.incr_eval.specs.declared.twig.Twig.TheFolds.{fold_out-Twig}
 use Rattle.incr_eval.specs.declared.visit.Visit.{Visit}
@@ -92,10 +91,6 @@ shown r t v s e =
       read = λ i is. ap (λ (x : Visit-F Visit). x.read) (opened i is);
       items = λ i is. ap (λ (x : Visit-F Visit). x.items) (opened i is);
     }
-
-pub length-map : {A B : Type 0} (f : A → B) (xs : List A) → length (map f xs) ≡ length xs
-length-map f [] = refl
-length-map f (x ∷ xs) = ap suc (length-map f xs)
 
 -- a tree is the visit that is made of what it keeps
 pub seen_again : (v : Visit) (i : Instance) → (out-Visit v).state ≡ i.state → (out-Visit v).read ≡ i.read → (out-Visit v).items ≡ i.items →

@@ -1,6 +1,7 @@
 -- Where nothing that was read differs, a term is visited as before.
 use Rattle.std.proofs.Common.{◌≡◌, ℕ, Bool, true, false, not, ◌||◌, List, [], ◌∷◌, map, cond, slice_get, Option, None, refl, ap, sym, ◌∙◌, subst}
 use Rattle.std.specs.List.{list_any}
+use Rattle.value_core.proofs.Basics.{or_parts}
 use Rattle.value_core.proofs.Sames.{same_true}
 use Rattle.value_core.specs.Codes.{value_code, state_code}
 use Rattle.value_core.specs.declared.value.Value.{Value}
@@ -57,10 +58,6 @@ module _ {P : Term → Type 0} where
 pub by_layer : (P : Term → Type 0) → ((y : Term-F ((t : Term) × P t)) → P (roll-Term (map-Term ((t : Term) × P t) Term (λ e. e.0) y))) → (t : Term) → P t
 by_layer P step = ind-Term P (λ x y is. subst (λ z. P (roll-Term z)) is (step y))
 
-or-false : (a b : Bool) → (a || b) ≡ false → (a ≡ false) × (b ≡ false)
-or-false true b h = absurd cc
-or-false false b h = (refl, h)
-
 not-false : (b : Bool) → not b ≡ false → b ≡ true
 not-false true h = refl
 not-false false h = cc
@@ -87,7 +84,7 @@ module _ (program : Program) (node : ℕ) (inputs inputs0 : List Value) (earlier
       parts_again (map (λ e. again G e.0) es) [] bound ≡ parts_again (map (λ e. again G0 e.0) es) [] bound
   parts_stay [] bound h = refl
   parts_stay (e ∷ es) bound h =
-      let s = or-false _ _ h in
+      let s = or_parts _ _ h in
       let here = e.1 bound s.0 in
       let rest = parts_stay es bound s.1 in
       cc
@@ -96,7 +93,7 @@ module _ (program : Program) (node : ℕ) (inputs inputs0 : List Value) (earlier
       (vs : List Value) → none_differ (items_again f0 vs []) → items_again f vs [] ≡ items_again f0 vs []
   items_stay f f0 stays [] h = refl
   items_stay f f0 stays (v ∷ vs) h =
-      let s = or-false _ _ h in
+      let s = or_parts _ _ h in
       let here = stays v s.0 in
       let rest = items_stay f f0 stays vs s.1 in
       cc
@@ -228,8 +225,8 @@ module _ (program : Program) (node : ℕ) (inputs inputs0 : List Value) (earlier
   stays_layer y bound h =
       let parts0 : List Again = parts_again (direct_parts (redone G0 y)) [] bound in
       let told : differs G (over_parts G0 (redone G0 y) None bound parts0).visit ≡ false = subst (λ (a : Again). differs G a.visit ≡ false) (again_roll G0 y None bound) h in
-      let s = or-false _ _ (sym (differs_parts y bound parts0) ∙ told) in
-      let s2 = or-false _ _ s.1 in
+      let s = or_parts _ _ (sym (differs_parts y bound parts0) ∙ told) in
+      let s2 = or_parts _ _ s.1 in
       again_roll G y None bound
       ∙ ap (λ parts. over_parts G (redone G y) None bound parts) (parts_same y bound s2.0)
       ∙ over_parts_stay y bound parts0 s.0 s2.1

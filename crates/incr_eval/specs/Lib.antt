@@ -8,6 +8,5 @@ pub mod Plans
 pub mod Mapping
 pub mod PatchedTrees
 pub mod Pooled
-pub mod Sampling
 pub mod Growing
 pub mod Renewals

@@ -172,7 +172,8 @@ fn look_up_build<E: Entries>(
     key: &State,
 ) -> Result<Read, NoMemory>
     requires { length setting.now.context.program.now.ops < 2 ^ 32 }
-    ensures { IfOk result (λ r. r ≡ build_read (context_in E.world setting.now.context) op.now key.now) }
+    ensures { let context = context_in E.world setting.now.context in
+        IfOk result (λ r. r ≡ build_read context op.now key.now) }
 {
     match key {
         State::Fine(key) => {

@@ -1,5 +1,5 @@
 -- A read of files in memory finds the first file of its path, and takes that file's first content.
-use Rattle.std.proofs.Common.{◌≡◌, ℕ, zero, suc, ◌+◌, Bool, true, false, cond, List, [], ◌∷◌, get_or, refl, sym, ap, subst, ◌∙◌, arith, inl, inr}
+use Rattle.std.proofs.Common.{◌≡◌, ℕ, zero, suc, ◌+◌, true, false, cond, List, [], ◌∷◌, get_or, refl, sym, ap, subst, ◌∙◌, arith, inl, inr}
 use Rattle.std.specs.Prelude.{string_bytes, slice_set, slice_get, map}
 use Rattle.std.specs.Global.{Vec}
 use Rattle.std.specs.Str.{bytes_eq}
@@ -9,11 +9,8 @@ use Rattle.std.proofs.lemmas.Bool.{cases_Bool, false≢true}
 use Rattle.std.proofs.lemmas.Slice.Eq.{bytes_eq-Decides}
 use Rattle.std.proofs.lemmas.Iterator.Adapters.{position_from-zero}
 use Rattle.io_ends.specs.declared.memory.held.HeldFile.{HeldFile}
-use Rattle.io_ends.specs.Memory.{contents_of, contents_at}
+use Rattle.io_ends.specs.Memory.{contents_of, contents_at, has_path}
 use Rattle.io_ends.specs.Known.{content_now, contents_later}
-
-abbrev pub has_path : List ℕ → HeldFile → Bool
-has_path path file = bytes_eq path (string_bytes file.path)
 
 -- the first file of the path stands there
 abbrev pub StandsAt : List HeldFile → List ℕ → ℕ → Type 0

@@ -21,7 +21,8 @@ use Rattle.term_core.specs.Limits.{is_input_layer, is_text, is_text_layer}
 use Rattle.pipe_text.proofs.GoodTokens.{IsGood}
 use Rattle.pipe_text.proofs.PrintedLines.{Lexes}
 use Rattle.keeper_core.specs.Printables.{IsPrintable, has_texts_layer, is_text_item}
-use Rattle.keeper_core.proofs.LexedTexts.{lex_blank, lex_end, lexed_whole, mark_lexes, number_alone, text_alone, text_lexes}
+use Rattle.pipe_text.proofs.PrintedLines.{lex_blank, lex_end}
+use Rattle.keeper_core.proofs.LexedTexts.{lexed_whole, mark_lexes, number_alone, text_alone, text_lexes}
 
 -- ---- printed forms
 

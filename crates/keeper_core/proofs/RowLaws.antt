@@ -1,23 +1,9 @@
 -- What well-formed rows are.
 use Rattle.std.proofs.Common.{◌≡◌, ◌<◌, ◌+◌, ℕ, zero, suc, ℤ, true, List, [], ◌∷◌, length, drop, get_or, None, Some, Option, refl, sym, arith}
-use Rattle.std.specs.List.{list_all}
-use Rattle.std.specs.Str.{is_utf8}
-use Rattle.value_core.specs.Texts.{no_nul}
-use Rattle.value_core.specs.Names.{is_letter, is_name, is_word_byte}
-use Rattle.value_core.proofs.Basics.{and_both, and_parts, or_left}
-use Rattle.value_core.proofs.Scans.{word_no_nul, word_utf8}
+use Rattle.value_core.specs.Names.{is_name}
+use Rattle.value_core.proofs.Basics.{and_parts}
 use Rattle.keeper_core.specs.declared.tables.CacheRow.{CacheRow}
 use Rattle.keeper_core.specs.WellFormed.{are_texts, first_refused, is_job, is_log, is_result, is_short_text, value_in}
-
-name_word : (bs : List ℕ) → is_name bs ≡ true → list_all is_word_byte bs ≡ true
-name_word [] h = absurd (cc)
-name_word (b ∷ bs) h = let p = and_parts (is_letter b) _ h in and_both (is_word_byte b) (list_all is_word_byte bs) (or_left (is_letter b) _ p.0) (and_parts (list_all is_word_byte bs) _ p.1).0
-
-pub name_utf8 : (bs : List ℕ) → is_name bs ≡ true → is_utf8 bs ≡ true
-name_utf8 bs h = word_utf8 bs (name_word bs h)
-
-pub name_no_nul : (bs : List ℕ) → is_name bs ≡ true → no_nul bs ≡ true
-name_no_nul bs h = word_no_nul bs (name_word bs h)
 
 -- the texts of a result
 pub result_op : (next : ℤ) (before : Option CacheRow) (r : CacheRow) → is_result next before r ≡ true → is_name r.op ≡ true

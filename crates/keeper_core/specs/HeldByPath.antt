@@ -19,6 +19,10 @@ Leaves hs last.None x = ⊥
 Leaves hs (last.Held index) x = Some x ≡ option_map (λ h. h.stored) (slice_get hs index)
 Leaves hs (last.Apart s) x = x ≡ s
 
+-- no tables may be left
+abbrev pub LeavesNothing : (Stored → Type 0) → Type 0
+LeavesNothing left = (s : Stored) → left s → ⊥
+
 -- the path's tables are those at the index, or none are held
 abbrev pub FindsHeld : List HeldTables → List ℕ → Option ℕ → Type 0
 FindsHeld hs path result = MatchOption result (held_at hs path ≡ fresh_stored) (λ i. (i < length hs) × ((d : HeldTables) → held_at hs path ≡ (get_or hs i d).stored))

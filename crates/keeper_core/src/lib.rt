@@ -24,8 +24,6 @@ mod rows;
 mod sorted;
 mod stored;
 mod tables;
-#[cfg(test)]
-mod tests;
 mod texts;
 
 pub use failing::{FailingCall, Failure};

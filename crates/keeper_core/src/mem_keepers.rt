@@ -1,6 +1,6 @@
 //! Stores in memory by their paths.
-ghost use Rattle.std.specs.Prelude.{◌≡◌, ◌↔◌, true, IfSome, OnErr, OnOk, Some};
-ghost use Rattle.keeper_core.specs.HeldByPath.{FindsHeld, HoldsAlike, Leaves, held_at};
+ghost use Rattle.std.specs.Prelude.{◌≡◌, ◌↔◌, true, IfNone, IfSome, OnErr, OnOk, Some};
+ghost use Rattle.keeper_core.specs.HeldByPath.{FindsHeld, HoldsAlike, Leaves, LeavesNothing, held_at};
 ghost use Rattle.keeper_core.specs.declared.stored.Stored.{Stored};
 
 use crate::failing::{Calls, FailingCall};
@@ -86,7 +86,8 @@ impl MemKeepers {
 
     /// What a stop may leave of the keeper that was given back last.
     pub fn left(&self) -> Option<&Stored>
-        ensures { IfSome result (λ s. ⟦<MemKeepers as Keepers>⟧.left self.now s.now) }
+        ensures some { IfSome result (λ s. ⟦<MemKeepers as Keepers>⟧.left self.now s.now) }
+        ensures none { IfNone result (LeavesNothing (⟦<MemKeepers as Keepers>⟧.left self.now)) }
     {
         match &self.last {
             LastGiven::None => None,

@@ -108,7 +108,8 @@ impl MemTables {
         requires inputs { IsInOrder bytes_cmp inputs.items }
         requires cache { IsInOrder key_cmp cache.items }
         requires logs { IsInOrder int_cmp logs.items }
-        ensures { result ≡ contents_of (record { meta = meta; inputs = inputs; cache = cache; logs = logs }) }
+        ensures { result ≡ contents_of
+            (record { meta = meta; inputs = inputs; cache = cache; logs = logs }) }
     {
         MemTables {
             meta,

@@ -53,7 +53,8 @@ pub(crate) fn put<K: Key, V: Drop>(entries: &mut Vec<Entry<K, V>>, entry: Entry<
     requires order { IsInOrder K.order entries.old.items }
     requires room { HasRoom entries.old }
     ensures order { IsInOrder K.order entries.new.items }
-    ensures map { vec_map K.order entries.new ≡ with_entry (Some entry) (vec_map K.order entries.old) }
+    ensures map { let before = vec_map K.order entries.old in
+        vec_map K.order entries.new ≡ with_entry (Some entry) before }
 {
     match search(entries.as_slice(), &entry.key) {
         Ok(index) => entries[index] = entry,

@@ -1,3 +1,4 @@
+pub mod Indices
 pub mod Fillings
 pub mod Fitting
 pub mod FilledRows

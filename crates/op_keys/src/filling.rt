@@ -3,7 +3,7 @@ ghost use Rattle.std.specs.Prelude.{◌≡◌, ◌<◌, ◌++◌, List, ℕ, [],
 ghost use Rattle.std.specs.String.{string_bytes};
 ghost use Rattle.op_keys.specs.Filling.{filled};
 ghost use Rattle.op_keys.specs.Orders.{capped};
-ghost use Rattle.op_keys.specs.Pieces.{put};
+ghost use Rattle.op_keys.specs.Pieces.{BeginsWith, put};
 
 use std::alloc::Global;
 use value_core::NoMemory;
@@ -17,8 +17,10 @@ pub(crate) enum Piece {
 
 /// What the template begins with, and the rest after it; `None` at its end.
 pub(crate) fn first_piece(template: &str) -> Option<(Piece, &str)>
-    ensures piece { MatchOption result (template.now ≡ []) (λ x. (key value : List ℕ) → filled key value template.now ≡ put key value x.0 ++ filled key value x.1.now) }
-    ensures shorter { MatchOption result (template.now ≡ []) (λ x. length x.1.now < length template.now) }
+    ensures piece { MatchOption result (template.now ≡ [])
+        (λ x. BeginsWith x.0 x.1.now template.now) }
+    ensures shorter { MatchOption result (template.now ≡ [])
+        (λ x. length x.1.now < length template.now) }
 {
     if let Some(rest) = template.strip_prefix("{key}") {
         return Some((Piece::Key, rest));

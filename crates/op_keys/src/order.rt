@@ -25,7 +25,8 @@ impl Model for Word {
 
     ghost view = { λ w. string_bytes w.word };
 
-    ghost invariant = { λ w. HasNoNul (string_bytes w.word) × (length (string_bytes w.word) ≤ order_limit) };
+    ghost invariant = { λ w. HasNoNul (string_bytes w.word)
+        × (length (string_bytes w.word) ≤ order_limit) };
 }
 
 /// What a worker is asked to run, for one job.
@@ -94,7 +95,8 @@ impl Word {
 
 /// The length of the first word beyond the limit.
 fn too_long(templates: &[Text], key: &Text, value: &Text) -> Option<usize>
-    ensures { result ≡ option_map capped (first_too_long (map (filled key.now value.now) templates.now)) }
+    ensures { let words = map (filled key.now value.now) templates.now in
+        result ≡ option_map capped (first_too_long words) }
 {
     for template in templates {
         let len = filled_len(template.as_str(), key.as_str(), value.as_str());
@@ -145,7 +147,8 @@ pub fn words_of(
 ) -> Result<ListOf<Word>, OrderFault>
     ensures words { IfOk result (λ ws. ws ≡ order_words decl.now key.now value.now) }
     ensures fits { OnOk result (order_fits decl.now key.now value.now ≡ true) }
-    ensures too_long { length_refused result ≡ option_map capped (first_too_long (order_words decl.now key.now value.now)) }
+    ensures too_long { let words = order_words decl.now key.now value.now in
+        length_refused result ≡ option_map capped (first_too_long words) }
 {
     let templates = decl.words.as_slice();
     if let Some(len) = too_long(templates, key, value) {

@@ -95,7 +95,7 @@ raw_end : (front : List ℕ) (n : ℕ) → length {A = ℕ} [] < n → Returns (
 raw_end front zero h = absurd (omega (arith, h))
 raw_end front (suc n) h = gives_next front [] n (Ok End) [] (next_end front) (refl, refl)
 
-lex_end : Lexes [] []
+pub lex_end : Lexes [] []
 lex_end = record { lexes = raw_end }
 
 -- the same bytes and offset, put otherwise
@@ -111,7 +111,7 @@ raw_token text rest k ks some e more front (suc n) h =
     let moved = gives_moved ((front ++ text) ++ rest) (front ++ (text ++ rest)) (length (front ++ text)) (length front + length text) n ks (append_assoc front text rest) (length-append front text) later in
     gives_next front (text ++ rest) n (Ok (Found k (length front) (length front + length text))) (k ∷ ks) (next_read front (text ++ rest) k (length text) e) (ap (λ (l : List Token). k ∷ l) moved.0, moved.1)
 
-lex_token : (text rest : List ℕ) (k : Token) (ks : List Token) → 0 < length text → token_at (text ++ rest) ≡ Some (k, length text) → Lexes rest ks → Lexes (text ++ rest) (k ∷ ks)
+pub lex_token : (text rest : List ℕ) (k : Token) (ks : List Token) → 0 < length text → token_at (text ++ rest) ≡ Some (k, length text) → Lexes rest ks → Lexes (text ++ rest) (k ∷ ks)
 lex_token text rest k ks some e more = record { lexes = raw_token text rest k ks some e more }
 
 raw_blank : (b : ℕ) (rest : List ℕ) (ks : List Token) → is_blank b ≡ true → Lexes rest ks → (front : List ℕ) (n : ℕ) → length (b ∷ rest) < n → Returns (length (front ++ b ∷ rest)) ks (lexed_from n (front ++ b ∷ rest) (length front))
@@ -123,7 +123,7 @@ raw_blank b rest ks e more front (suc n) h =
     gives_next front (b ∷ rest) n (next_at there (length (front ++ b ∷ []))) ks (next_blank front b rest e)
     (subst (λ (l : List ℕ). Returns (length l) ks (lexed_next (length l) (next_at there (length (front ++ b ∷ []))) (lexed_from n l))) whole later)
 
-lex_blank : (b : ℕ) (rest : List ℕ) (ks : List Token) → is_blank b ≡ true → Lexes rest ks → Lexes (b ∷ rest) ks
+pub lex_blank : (b : ℕ) (rest : List ℕ) (ks : List Token) → is_blank b ≡ true → Lexes rest ks → Lexes (b ∷ rest) ks
 lex_blank b rest ks e more = record { lexes = raw_blank b rest ks e more }
 
 -- ---- lines

@@ -54,7 +54,8 @@ fn write_names_line<D: Named>(
     numbers: &[u32],
 ) -> Result<(), NoMemory>
     requires { AreNumbersOf decls.now numbers.now }
-    ensures { Adds result out.old out.new (line label.now (names_at D.named decls.now numbers.now)) }
+    ensures { let names = names_at D.named decls.now numbers.now in
+        Adds result out.old out.new (line label.now names) }
 {
     out.push_str(label)?;
     out.push_str(":")?;

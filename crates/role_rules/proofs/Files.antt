@@ -1,6 +1,6 @@
 -- A roles file, line by line: the policy is that of its lines, and a fault is the first.
 use Rattle.std.proofs.Common.{◌≡◌, ℕ, ◌+◌, ◌<◌, ◌≤◌, inl, inr, Bool, true, false, List, [], ◌∷◌, ◌++◌, length, refl, arith, append_assoc, append-nil, length-append, sym, ◌∙◌, ap, subst}
-use Rattle.std.specs.Prelude.{IfErr, IfOk, ◌||◌, not, nat_lt, if◌then◌else◌, Option, Some, None, Result, Ok, Err}
+use Rattle.std.specs.Prelude.{IfErr, IfOk, not, nat_lt, if◌then◌else◌, Option, Some, None, Result, Ok, Err}
 use Rattle.std.specs.List.{AllByRecursion, IsDistinct}
 use Rattle.std.specs.Str.{bytes_eq}
 use Rattle.std.proofs.lemmas.Bool.Decides.{nat_tests}
@@ -17,6 +17,7 @@ use Rattle.role_rules.specs.Lines.{Says, line_read}
 use Rattle.role_rules.specs.Pieces.{pieces}
 use Rattle.role_rules.specs.Reading.{IsFaultReadAs, IsReadAs, and_then, anyone_taken, has_word, lines_taken, nobody, roles_read, taken, with_grant}
 use Rattle.role_rules.proofs.Roles.{line_says, says_read}
+use Rattle.value_core.proofs.Basics.{or_parts}
 
 -- a fault of a line is that of the lines from it on
 pub fault_ends : (e : RolesFault) (n : ℕ) (p : Policy) (l : List ℕ) (ls : List (List ℕ)) → IsFaultReadAs e (taken n p (line_read l)) → IsFaultReadAs e (lines_taken n p (l ∷ ls))
@@ -38,15 +39,11 @@ all_more : {X : Type 0} (P : X → Type 0) (xs : List X) (y : X) → AllByRecurs
 all_more P [] y h k = (k, tt)
 all_more P (x ∷ xs) y h k = (h.0, all_more P xs y h.1 k)
 
-neither : (a b : Bool) → (a || b) ≡ false → (a ≡ false) × (b ≡ false)
-neither true b e = absurd cc
-neither false b e = (refl, e)
-
 distinct_more : (gs : List Grant) (g : Grant) → IsDistinct same_word gs → has_word g.word gs ≡ false → IsDistinct same_word (gs ++ g ∷ [])
 unfolding IsDistinct
 distinct_more [] g h e = (tt, tt)
 distinct_more (f ∷ gs) g h e =
-    let p = neither (bytes_eq f.word g.word) (has_word g.word gs) e in
+    let p = or_parts (bytes_eq f.word g.word) (has_word g.word gs) e in
     (all_more (λ k. same_word f k ≡ false) gs g h.0 p.0, distinct_more gs g h.1 p.1)
 
 none_distinct : IsDistinct same_word []

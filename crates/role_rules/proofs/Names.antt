@@ -5,23 +5,13 @@ use Rattle.std.specs.List.{list_all}
 use Rattle.std.specs.Str.{IsUtf8}
 use Rattle.std.proofs.lemmas.Bool.Decides.{nat_tests}
 use Rattle.std.proofs.lemmas.Str.{IsUtf8-from_is_utf8}
-use Rattle.value_core.specs.Names.{is_letter, is_name, is_word_byte}
-use Rattle.value_core.proofs.Basics.{and_both, and_parts, or_left}
-use Rattle.value_core.specs.Texts.{no_nul}
-use Rattle.value_core.proofs.Scans.{word_no_nul, word_utf8}
+use Rattle.value_core.specs.Names.{is_name}
+use Rattle.value_core.proofs.Basics.{and_parts}
+use Rattle.value_core.proofs.Scans.{name_word, word_utf8}
 use Rattle.role_rules.specs.Lines.{name_read, names_read}
 
-pub name_bytes : (n : List ℕ) → is_name n ≡ true → list_all is_word_byte n ≡ true
-name_bytes [] e = absurd cc
-name_bytes (b ∷ bs) e =
-    let h = and_parts (is_letter b) _ e in
-    and_both (is_word_byte b) (list_all is_word_byte bs) (or_left (is_letter b) _ h.0) (and_parts (list_all is_word_byte bs) _ h.1).0
-
-pub name_no_nul : (n : List ℕ) → is_name n ≡ true → no_nul n ≡ true
-name_no_nul n e = word_no_nul n (name_bytes n e)
-
 pub name_utf8 : (n : List ℕ) → is_name n ≡ true → IsUtf8 n
-name_utf8 n e = IsUtf8-from_is_utf8 n (word_utf8 n (name_bytes n e))
+name_utf8 n e = IsUtf8-from_is_utf8 n (word_utf8 n (name_word n e))
 
 pub all_both : {X : Type 0} (p : X → Bool) (xs ys : List X) → list_all p xs ≡ true → list_all p ys ≡ true → list_all p (xs ++ ys) ≡ true
 all_both p [] ys e f = f

@@ -1,5 +1,5 @@
 -- Lines of a roles file: what is read is what a line says, and all that lines say is read.
-use Rattle.std.proofs.Common.{◌≡◌, ℕ, ◌≤◌, ◌⊎◌, inl, inr, Bool, true, false, cond, List, [], ◌∷◌, ◌++◌, length, refl, arith, rules, sym, ◌∙◌, ap, subst}
+use Rattle.std.proofs.Common.{◌≡◌, ℕ, ◌≤◌, ◌⊎◌, inl, inr, Bool, true, false, cond, List, [], ◌∷◌, ◌++◌, length, refl, arith, sym, ◌∙◌, ap, subst}
 use Rattle.std.specs.Prelude.{◌&&◌, ◌==◌, not, nat_lt, codes, Option, Some, None}
 use Rattle.std.specs.List.{list_all}
 use Rattle.std.specs.Option.{option_map}
@@ -13,14 +13,12 @@ use Rattle.role_rules.specs.declared.role.Role.{Role}
 use Rattle.role_rules.specs.declared.role.Role.TheVariants.{Viewer, Builder, Monitor, Admin}
 use Rattle.role_rules.specs.Lines.{IsGrant, Says, anyone_read, by_role, find_role, grant_read, is_visible, is_word, line_read, names_read, role_letters, role_of, scope_read, scope_tokens, spaced, tokens_read}
 use Rattle.role_rules.specs.Pieces.{pieces}
-use Rattle.role_rules.proofs.Names.{name_bytes, some_read}
-use Rattle.value_core.proofs.Basics.{and_parts}
-use Rattle.value_core.specs.Names.{is_letter, is_name, is_word_byte}
+use Rattle.role_rules.proofs.Names.{some_read}
+use Rattle.value_core.proofs.Basics.{and_parts, bytes_same}
+use Rattle.value_core.proofs.Scans.{name_word}
+use Rattle.value_core.specs.Names.{is_name, is_word_byte}
 
 -- ---- words
-
-pub same_bytes : (xs ys : List ℕ) → bytes_eq xs ys ≡ true → xs ≡ ys
-same_bytes xs ys e = search (rules, e)
 
 role_is : (r : Role) → role_of (role_letters r) ≡ Some r
 unfolding role_of
@@ -30,7 +28,7 @@ role_is Monitor = refl
 role_is Admin = refl
 
 pick : (n : List ℕ) (v : Role) (b : Bool) (o : Option Role) (r : Role) → bytes_eq n (role_letters v) ≡ b → cond b (Some v) o ≡ Some r → (n ≡ role_letters r) ⊎ (o ≡ Some r)
-pick n v true o r t e = let same : v ≡ r = cc in inl (same_bytes n (role_letters v) t ∙ ap role_letters same)
+pick n v true o r t e = let same : v ≡ r = cc in inl (bytes_same n (role_letters v) t ∙ ap role_letters same)
 pick n v false o r t e = inr e
 
 found_letters : (rs : List Role) (n : List ℕ) (r : Role) → find_role rs n ≡ Some r → n ≡ role_letters r
@@ -63,7 +61,7 @@ scope_on : (on : List ℕ) (ps ns : List (List ℕ)) (t : Bool) → bytes_eq on 
 scope_on on ps ns false t e = absurd cc
 scope_on on ps ns true t e =
     let h = names_are ps ns _ refl e in
-    ((λ i. same_bytes on (codes "on") t i ∷ h.0 i) ∙ scope_by ns h.1, h.2, h.3)
+    ((λ i. bytes_same on (codes "on") t i ∷ h.0 i) ∙ scope_by ns h.1, h.2, h.3)
 
 scope_is : (ps ns : List (List ℕ)) → scope_read ps ≡ Some ns
     → (ps ≡ scope_tokens ns) × (list_all is_name ns ≡ true) × (length ns ≤ 64)
@@ -107,7 +105,7 @@ role_by p ps None s t e = absurd cc
 role_by p ps (Some r) s t e = rw (letters_are p r t) (grant_tokens r ps s e)
 
 tokens_by : (p : List ℕ) (ps : List (List ℕ)) (s : Line) (t : Bool) → bytes_eq p (codes "anyone") ≡ t → cond t (anyone_read ps) (by_role (role_of p) ps) ≡ Some s → Tokens (p ∷ ps) s
-tokens_by p ps s true t e = rw (same_bytes p (codes "anyone") t) (anyone_tokens ps s e)
+tokens_by p ps s true t e = rw (bytes_same p (codes "anyone") t) (anyone_tokens ps s e)
 tokens_by p ps s false t e = role_by p ps (role_of p) s refl e
 
 tokens_say : (ps : List (List ℕ)) (s : Line) → tokens_read ps ≡ Some s → Tokens ps s
@@ -166,7 +164,7 @@ word_apart : (w : List ℕ) → is_word w ≡ true → no_space w ≡ true
 word_apart w e = all_weaker is_visible (λ b. not (b == 32)) visible_apart w (and_parts (nat_lt (length w) 257) _ (and_parts (nat_lt 0 (length w)) _ e).1).1
 
 name_apart : (n : List ℕ) → is_name n ≡ true → no_space n ≡ true
-name_apart n e = all_weaker is_word_byte (λ b. not (b == 32)) word_byte_apart n (name_bytes n e)
+name_apart n e = all_weaker is_word_byte (λ b. not (b == 32)) word_byte_apart n (name_word n e)
 
 scope_apart : (ns : List (List ℕ)) → list_all is_name ns ≡ true → list_all no_space (scope_tokens ns) ≡ true
 scope_apart [] e = refl

@@ -45,7 +45,7 @@ fn is_word(bytes: &[u8]) -> bool
 }
 
 /// The text of a name.
-#[tactic(auto, using(crate::proofs::Names::name_no_nul))]
+#[tactic(auto, using(value_core::proofs::Scans::name_no_nul))]
 fn name_text(alloc: Global, bytes: &[u8]) -> Result<Option<Text>, NoMemory>
     ensures { IfOk result (λ o. o ≡ name_read bytes.now) }
 {

@@ -21,7 +21,8 @@ pub(crate) fn cut(bytes: &[u8], separator: u8) -> (&[u8], &[u8])
 /// The next piece after a separator, and what follows it.
 pub(crate) fn next_piece(rest: &[u8], separator: u8) -> Option<(&[u8], &[u8])>
     ensures none { IfNone result (pieces_after separator rest.now ≡ []) }
-    ensures some { IfSome result (λ x. IsCut separator (pieces_after separator rest.now) x.0.now x.1.now) }
+    ensures some { let pieces = pieces_after separator rest.now in
+        IfSome result (λ x. IsCut separator pieces x.0.now x.1.now) }
     ensures shorter { MatchOption result (rest.now ≡ []) (λ x. length x.1.now < length rest.now) }
 {
     match rest {

@@ -72,7 +72,8 @@ fn passes_name(names: &[Text], name: &Text) -> bool
 
 /// The role and the names of a sender with this word.
 fn sender_of<'a>(policy: &'a Policy, word: Option<&[u8]>) -> Option<(Role, &'a [Text])>
-    ensures { option_map (λ s. (s.0, s.1.now)) result ≡ sender policy.now (option_map (λ w. w.now) word.entry) }
+    ensures { let word = option_map (λ w. w.now) word.entry in
+        option_map (λ s. (s.0, s.1.now)) result ≡ sender policy.now word }
 {
     let none: &[Text] = &[];
     let anyone = match policy.anyone {

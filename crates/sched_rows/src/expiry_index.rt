@@ -31,7 +31,10 @@ impl Model for ExpiryIndex {
 
     ghost coded = { ends_code };
 
-    ghost view = { λ i. record { set = ends_of i.ends.items; room = vec_capacity i.ends - vec_len i.ends } };
+    ghost view = { λ i. record {
+      set = ends_of i.ends.items;
+      room = vec_capacity i.ends - vec_len i.ends;
+    } };
 
     ghost invariant = { λ i. IsRising i.ends.items };
 }
@@ -161,7 +164,8 @@ impl ExpiryIndex {
         upto: u64,
     ) -> Result<Vec<usize>, NoMemory>
         ensures rising { IfOk result (λ ps. IsNonDecreasing ps.items) }
-        ensures within { IfOk result (λ ps. IsPermutation (places_within after upto self.now.set) ps.items) }
+        ensures within { let within = places_within after upto self.now.set in
+            IfOk result (λ ps. IsPermutation within ps.items) }
     {
         let ends = self.ends.as_slice();
         let start = count_upto(ends, after);

@@ -110,7 +110,8 @@ impl Rows {
         requires finished { IsTime row.finished }
         requires expiry { IsInRange expiry.now }
         ensures replaced { result ≡ get self.old.rows (key_of row) }
-        ensures after { self.new ≡ record (with_row row expiry.now self.old) { spare = self.old.spare - 1 } }
+        ensures after { let put = with_row row expiry.now self.old in
+            self.new ≡ record put { spare = self.old.spare - 1 } }
     {
         self.spare -= 1;
         let found = search(self.held.as_slice(), &row.op, &row.key);

@@ -11,7 +11,7 @@ use Rattle.scope_pool.specs.Region.{ScopedItem, exchanged, is_within, OpenScope}
 false-ne-true : false ≡ true → ⊥
 false-ne-true h = cc
 
-eq_same : (n : ℕ) → eq_by_cmp nat_cmp n n ≡ true
+pub eq_same : (n : ℕ) → eq_by_cmp nat_cmp n n ≡ true
 eq_same n = grind (arith, nat_tests)
 
 eq_other : (m n : ℕ) → m < n → eq_by_cmp nat_cmp m n ≡ false

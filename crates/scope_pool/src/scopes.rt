@@ -21,7 +21,8 @@ pub(crate) fn reserve_scopes(
     ensures scopes_room { vec_capacity scopes.old ≤ vec_capacity scopes.new }
     ensures closing_room { vec_capacity closing.old ≤ vec_capacity closing.new }
     ensures ok { OnOk result (vec_len scopes.new + more ≤ vec_capacity scopes.new) }
-    ensures ok_to_close { OnOk result (vec_len scopes.new + vec_len closing.new + more ≤ vec_capacity closing.new) }
+    ensures ok_to_close { let all = vec_len scopes.new + vec_len closing.new + more in
+        OnOk result (all ≤ vec_capacity closing.new) }
 {
     scopes.reserve(more)?;
     closing.reserve(scopes.len().checked_add(more).ok_or(AllocError)?)
@@ -52,7 +53,8 @@ fn is_among(names: &[u64], name: Option<u64>) -> bool
 
 /// Drops the scopes of these names.
 pub(crate) fn drop_scopes(scopes: &mut Vec<Scope>, closing: &[u64])
-    ensures left { scopes.new.items ≡ filter (λ s. not (among closing.now s.name)) scopes.old.items }
+    ensures left { scopes.new.items
+        ≡ filter (λ s. not (among closing.now s.name)) scopes.old.items }
     ensures len { vec_len scopes.new ≤ vec_len scopes.old }
     ensures capacity { vec_capacity scopes.new ≡ vec_capacity scopes.old }
 {

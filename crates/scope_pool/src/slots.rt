@@ -105,7 +105,8 @@ pub(crate) fn fill<T: Drop>(
     ensures laid_out { IsLaidOut slots.new.items vacant.new.items }
     ensures was_vacant { held_at slots.old.items result ≡ None }
     ensures within { result < vec_len slots.old }
-    ensures filled { IsFilled result (record { scope = scope; item = item }) slots.old.items slots.new.items }
+    ensures filled { IsFilled result (record { scope = scope; item = item })
+        slots.old.items slots.new.items }
     ensures len { vec_len slots.new ≡ vec_len slots.old }
     ensures vacant { vec_len vacant.new + 1 ≡ vec_len vacant.old }
     ensures capacity { vec_capacity vacant.new ≡ vec_capacity vacant.old }
@@ -123,7 +124,8 @@ pub(crate) fn exchange<T>(slots: &mut Vec<Slot<T>>, place: u32, item: T) -> T
     requires { IsSome (held_at slots.old.items place) }
     ensures old { item_at slots.old.items place ≡ Some result }
     ensures new { IsExchanged place item slots.old.items slots.new.items }
-    ensures laid_out { (vacant : List ℕ) → IsLaidOut slots.old.items vacant → IsLaidOut slots.new.items vacant }
+    ensures laid_out { (vacant : List ℕ) → IsLaidOut slots.old.items vacant
+        → IsLaidOut slots.new.items vacant }
     ensures len { vec_len slots.new ≡ vec_len slots.old }
 {
     let slot = &mut slots[place as usize];
@@ -177,7 +179,8 @@ fn vacate_one<T: Drop>(slots: &mut Vec<Slot<T>>, vacant: &mut Vec<u32>, i: usize
 
 /// Whether a slot is of one of these scopes.
 fn stands_in<T>(slot: &Slot<T>, closing: &[u64]) -> bool
-    ensures stays { left_by (among closing.now) (held_in slot.now) ≡ (if result then None else held_in slot.now) }
+    ensures stays { let held = held_in slot.now in
+        left_by (among closing.now) held ≡ (if result then None else held) }
     ensures held { IsTrue result → is_held slot.now ≡ true }
 {
     match slot {

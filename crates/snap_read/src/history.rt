@@ -102,7 +102,8 @@ impl Model for SnapOpened {
 
     ghost view = { λ o. record { history = o.seen.book; first = o.first; readers = o.readers } };
 
-    ghost invariant = { λ o. (o.seen.log ≡ []) × (o.head ≡ head_of o.seen.book) × (0 < o.readers) × (o.readers ≤ 128) };
+    ghost invariant = { λ o. (o.seen.log ≡ []) × (o.head ≡ head_of o.seen.book)
+        × (0 < o.readers) × (o.readers ≤ 128) };
 }
 
 impl SnapOpened {
@@ -179,7 +180,8 @@ impl<J: SnapNaming> Model for Front<J> {
 
     ghost view = { λ f. f.seen.log };
 
-    ghost invariant = { λ f. (f.count ≡ length f.seen.log) × (f.seen.book ≡ J.history) × All J.test f.seen.log × AreRising f.seen.log };
+    ghost invariant = { λ f. (f.count ≡ length f.seen.log) × (f.seen.book ≡ J.history)
+        × All J.test f.seen.log × AreRising f.seen.log };
 }
 
 impl<J: SnapNaming> Front<J> {

@@ -1,5 +1,5 @@
 -- What the terms of a sound program name is declared, and what they name and is declared is reported.
-use Rattle.std.proofs.Common.{◌≡◌, ℕ, zero, suc, ◌+◌, ◌≤◌, List, [], ◌∷◌, ◌++◌, length, map, Bool, true, false, cond, Option, Some, None, refl, ap, sym, subst, ◌∙◌, arith}
+use Rattle.std.proofs.Common.{◌≡◌, ℕ, zero, suc, ◌+◌, List, [], ◌∷◌, ◌++◌, length, map, Bool, true, false, cond, Option, Some, None, refl, ap, sym, subst, ◌∙◌, arith}
 use Rattle.std.specs.Prelude.{◌&&◌, ◌||◌, ◌==◌, nat_lt, is_some, slice_get, not, option_map}
 use Rattle.std.specs.List.{filter, list_any}
 use Rattle.std.specs.Option.{option_and_then}
@@ -16,6 +16,7 @@ use Rattle.op_keys.specs.declared.declarations.OpDecl.{OpDecl}
 use Rattle.op_keys.specs.declared.level.Level.{Level}
 use Rattle.term_core.specs.Limits.{parts_of}
 use Rattle.op_keys.specs.Names.{index_named}
+use Rattle.op_keys.proofs.Indices.{index_from}
 use Rattle.term_core.specs.Soundness.{NamedKind, Typing, IsSound, bind_kind, build_kind, input_kind, is_op, item_kind, kinds_from, layer_kind, node_kinds, output_kind, small, term_kind, unit_of_units, wanted_kind}
 use Rattle.value_core.specs.Kinds.{literal_kind}
 use Rattle.term_core.specs.declared.program.InputDecl.{InputDecl}
@@ -62,17 +63,12 @@ listed_by name used at (d ∷ ds) n is has =
 
 -- ---- the operation at the place of a name
 
-place_least : (at : ℕ) (ms : List (List ℕ)) (n : List ℕ) → at ≤ index_named at ms n
-place_least at [] n = omega arith
-place_least at (m ∷ ms) n =
-    elim (bytes_eq m n) as (λ b. at ≤ cond b at (index_named (at + 1) ms n)) [ true ↦ omega arith | false ↦ let h = place_least (at + 1) ms n in omega (arith, h) ]
-
 pub found_name : {D : Type 0} (name : D → List ℕ) (at : ℕ) (ds : List D) (n : List ℕ) (k : ℕ) (d : D) → index_named at (map name ds) n ≡ at + k → slice_get ds k ≡ Some d → bytes_eq (name d) n ≡ true
 found_name name at [] n k d is e = absurd cc
 found_name name at (x ∷ ds) n zero d is e =
     elim (bytes_eq (name x) n) as (λ b. bytes_eq (name x) n ≡ b → cond b at (index_named (at + 1) (map name ds) n) ≡ at + 0 → bytes_eq (name d) n ≡ true) [
       | true ↦ λ same is. let one : x ≡ d = cc in ap (λ y. bytes_eq (name y) n) (sym one) ∙ same
-      | false ↦ λ other is. let h = place_least (at + 1) (map name ds) n in absurd (omega (arith, h, is))
+      | false ↦ λ other is. let h = index_from (at + 1) (map name ds) n in absurd (omega (arith, h, is))
     ] refl is
 found_name name at (x ∷ ds) n (suc k) d is e =
     elim (bytes_eq (name x) n) as (λ b. cond b at (index_named (at + 1) (map name ds) n) ≡ at + suc k → bytes_eq (name d) n ≡ true) [

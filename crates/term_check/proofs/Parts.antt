@@ -1,7 +1,8 @@
 -- The parts of a term of several terms, and the numbers of declarations, one after the other.
-use Rattle.std.proofs.Common.{◌≡◌, ℕ, ◌+◌, List, [], ◌∷◌, ◌++◌, map, Bool, true, false, cond, Option, Some, drop, refl, ap, sym, ◌∙◌, append_assoc}
+use Rattle.std.proofs.Common.{◌≡◌, ℕ, ◌+◌, List, [], ◌∷◌, ◌++◌, map, Bool, true, false, cond, Option, Some, drop, ap, sym, ◌∙◌, append_assoc}
 use Rattle.std.specs.Prelude.{◌||◌}
 use Rattle.std.specs.List.{filter, list_any}
+use Rattle.value_core.proofs.Basics.{any_mapped}
 use Rattle.op_keys.specs.declared.declarations.OpDecl.{OpDecl}
 use Rattle.op_keys.specs.declared.level.Level.{Level}
 use Rattle.term_core.specs.Limits.{parts_of}
@@ -9,10 +10,6 @@ use Rattle.term_core.specs.declared.program.Term.{Term, Term-F, fold-roll-Term}
 use Rattle.term_core.specs.declared.program.Term.TheVariants as term
 use Rattle.term_check.specs.Reports.{greatest_level, has_body, higher, names_here, numbers_where, some_term}
 use Rattle.term_check.specs.declared.report.Role.{Role}
-
-any_mapped : {X : Type 0} (f : X → Bool) (xs : List X) → list_any (λ b. b) (map f xs) ≡ list_any f xs
-any_mapped f [] = refl
-any_mapped f (x ∷ xs) = ap (λ b. f x || b) (any_mapped f xs)
 
 pub names_all : (r : Role) (n : List ℕ) (ts : List Term) → some_term (names_here r n) (term.All ts) ≡ list_any (some_term (names_here r n)) ts
 names_all r n ts =

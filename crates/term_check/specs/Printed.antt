@@ -1,11 +1,8 @@
 -- Printed kinds, as bytes.
 use Rattle.std.specs.Prelude.{ℕ, List, ◌++◌, codes}
 use Rattle.value_core.specs.declared.value.Kind.{Kind, Kind-F, fold-Kind}
+use Rattle.value_core.specs.Printed.{pair_text}
 use Rattle.term_check.specs.declared.wanted.Wanted.{Wanted, Wanted-F, fold-Wanted}
-
--- a pair of two printed kinds
-abbrev pub pair_text : List ℕ → List ℕ → List ℕ
-pair_text a b = codes "(" ++ (a ++ (codes ", " ++ (b ++ codes ")")))
 
 -- a list of items of a printed kind
 abbrev pub list_text : List ℕ → List ℕ

@@ -12,9 +12,9 @@ use Rattle.term_core.specs.declared.program.Program.{Program}
 use Rattle.term_core.specs.declared.program.Term.{Term, Term-F, out-Term, map-Term, fold-Term}
 use Rattle.term_check.specs.Functions.{fun_wanted}
 use Rattle.term_check.specs.Verdicts.{inside, behind, in_body, then_typed, expected, turned_kind, named, nested, sized}
-use Rattle.term_check.specs.declared.context.Context.{Context}
 use Rattle.term_check.specs.declared.fault.CheckWhat.{CheckWhat}
 use Rattle.term_check.specs.declared.fault.CheckWhat.TheVariants as what
+use Rattle.term_check.specs.declared.typing.Checker.{Checker}
 use Rattle.term_check.specs.declared.verdict.Position.{Position}
 use Rattle.term_check.specs.declared.verdict.Verdict.{Verdict}
 use Rattle.term_check.specs.declared.verdict.Verdict.TheVariants.{Typed}
@@ -24,9 +24,9 @@ use Rattle.term_check.specs.declared.wanted.Wanted.TheVariants as wanted
 abbrev pub Check : Type 0
 Check = List NamedKind → Position → Verdict
 
--- a check over the pipeline and the kinds of the nodes before
-abbrev pub within : Context → (Program → List Kind → Check) → Check
-within c check = check c.program.now c.earlier.now
+-- a check over a checker's pipeline and kinds of earlier nodes, under its bound kinds
+abbrev pub within : Checker → (Program → List Kind → Check) → Position → Verdict
+within c check = check c.context.program.now c.context.earlier.now c.bound
 
 -- a fault where a test fails
 abbrev pub unless : Bool → CheckWhat → Option CheckWhat

@@ -121,13 +121,12 @@ fn node_fault(alloc: Global, program: &Program) -> Result<Option<CheckFault>, No
             deep,
             at: 0,
         };
-        let mut bound = ListOf::new(alloc);
         let context = Context {
             alloc,
             program,
             earlier: earlier.as_slice(),
         };
-        match check_term(&context, &node.term, &mut bound, position)? {
+        match check_term(context, &node.term, position)? {
             Verdict::Typed {
                 kind,
                 deep: deep_so_far,

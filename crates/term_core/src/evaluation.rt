@@ -101,6 +101,7 @@ impl<'a, E: Entries> Evaluator<'a, E> {
             Term::Output { op, key, value } => self.output(op, key.get(), value.get(), steps),
         }
     }
+
     /// A function of the value of a term. Applying it is the visit, if there is a value.
     #[cycle(evaluation)]
     fn map<L: Ledger>(

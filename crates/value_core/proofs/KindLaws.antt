@@ -24,7 +24,7 @@ use Rattle.value_core.proofs.Layers.{fits_layer, out_at}
 
 -- ---- values of a kind
 
-fits_words : (t : List ℕ) → fits_kind kind.Text (value.Words t) ≡ true
+pub fits_words : (t : List ℕ) → fits_kind kind.Text (value.Words t) ≡ true
 fits_words t = fits_layer Kind-F.Text kind.Text kind.rolls-Text (value.Words t) ∙ ap (layer_fits Kind-F.Text) (out_at (Value-F.Words t) (value.Words t) (value.rolls-Words t))
 
 fits_number : (n : ℕ) → fits_kind kind.Num (value.Num n) ≡ true

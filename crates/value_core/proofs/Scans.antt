@@ -17,10 +17,10 @@ use Rattle.value_core.specs.declared.strings.Mode.TheVariants.{Plain, Slash, Hex
 use Rattle.value_core.specs.declared.strings.Step.{Step}
 use Rattle.value_core.specs.declared.strings.Step.TheVariants.{Ends, Adds, Turns, Wrong}
 use Rattle.value_core.specs.Texts.{no_nul}
-use Rattle.value_core.specs.Names.{is_word_byte}
+use Rattle.value_core.specs.Names.{is_letter, is_name, is_word_byte}
 use Rattle.value_core.specs.Strings.{with_byte, later, go_on, step, is_hex, hex_value, is_control, body_at}
 use Rattle.value_core.specs.Tokens.{gap, is_blank, in_line, line, number_of}
-use Rattle.value_core.proofs.Basics.{and_parts, nat_lt_is, not_true}
+use Rattle.value_core.proofs.Basics.{and_both, and_parts, nat_lt_is, not_true, or_left}
 
 pub not_utf8 : (bs : List ℕ) → ¬ (IsUtf8 bs) → is_utf8 bs ≡ false
 not_utf8 bs bad = not_true (is_utf8 bs) (λ e. bad (IsUtf8-from_is_utf8 bs e))
@@ -141,6 +141,18 @@ word_ascii (b ∷ bs) e = let p = and_parts (is_word_byte b) (list_all is_word_b
 
 pub word_utf8 : (w : List ℕ) → list_all is_word_byte w ≡ true → is_utf8 w ≡ true
 word_utf8 w e = is_utf8-from_IsUtf8 w (IsUtf8-from_ascii w (word_ascii w e))
+
+pub name_word : (n : List ℕ) → is_name n ≡ true → list_all is_word_byte n ≡ true
+name_word [] e = absurd cc
+name_word (b ∷ bs) e =
+    let h = and_parts (is_letter b) _ e in
+    and_both (is_word_byte b) (list_all is_word_byte bs) (or_left (is_letter b) _ h.0) (and_parts (list_all is_word_byte bs) _ h.1).0
+
+pub name_utf8 : (n : List ℕ) → is_name n ≡ true → is_utf8 n ≡ true
+name_utf8 n e = word_utf8 n (name_word n e)
+
+pub name_no_nul : (n : List ℕ) → is_name n ≡ true → no_nul n ≡ true
+name_no_nul n e = word_no_nul n (name_word n e)
 
 passes_or : (p : ℕ → Bool) (x : ℕ) (xs : List ℕ) (b : Bool) → p x ≡ b → list_all p xs ≡ true → list_all p (cond b (x ∷ xs) []) ≡ true
 passes_or p x xs true e h = rw (e, h) refl

@@ -17,3 +17,4 @@ pub mod Cuts
 pub mod Functions
 pub mod Literals
 pub mod FunctionKinds
+pub mod inside

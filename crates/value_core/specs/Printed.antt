@@ -37,6 +37,14 @@ abbrev pub separated : List (List ℕ) → List ℕ
 separated [] = []
 separated (x ∷ xs) = x ++ following xs
 
+-- a pair's text, by those of its parts
+abbrev pub pair_text : List ℕ → List ℕ → List ℕ
+pair_text a b = codes "(" ++ (a ++ (codes ", " ++ (b ++ codes ")")))
+
+-- a list's text, by those of its items
+abbrev pub list_text : List (List ℕ) → List ℕ
+list_text xs = codes "[" ++ (separated xs ++ codes "]")
+
 -- the printed form of a layer of an outcome, whose value's is in its place
 abbrev pub outcome_text_step : Outcome-F (List ℕ) (List ℕ) → List ℕ
 outcome_text_step (Outcome-F.Fine v) = codes "ok(" ++ (v ++ codes ")")
@@ -48,8 +56,8 @@ abbrev pub value_text_step : Value-F (List ℕ) (List ℕ) → List ℕ
 value_text_step (Value-F.Words t) = quoted t
 value_text_step (Value-F.Num n) = decimal n
 value_text_step Value-F.Unit = codes "()"
-value_text_step (Value-F.Pair a b) = codes "(" ++ (a ++ (codes ", " ++ (b ++ codes ")")))
-value_text_step (Value-F.List xs) = codes "[" ++ (separated xs ++ codes "]")
+value_text_step (Value-F.Pair a b) = pair_text a b
+value_text_step (Value-F.List xs) = list_text xs
 value_text_step (Value-F.Out o) = o
 
 -- the printed form

@@ -11,6 +11,10 @@ no_nul (b ∷ bs) = not (b == 0) && no_nul bs
 abbrev pub HasNoNul : List ℕ → Type 0
 HasNoNul bs = no_nul bs ≡ true
 
+-- a text without zeros gets none
+abbrev pub KeepsNoNul : List ℕ → List ℕ → Type 0
+KeepsNoNul before after = HasNoNul before → HasNoNul after
+
 -- UTF-8 without NUL
 abbrev pub is_text : List ℕ → Bool
 is_text bs = is_utf8 bs && no_nul bs

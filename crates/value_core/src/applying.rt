@@ -58,7 +58,8 @@ pub(crate) fn cut(alloc: Global, text: &str, separator: Separator) -> Result<App
 fn add_line(text: &mut String, line: &str, is_first: bool) -> Result<(), NoMemory>
     requires line { HasNoNul line.now }
     requires text { HasNoNul (string_bytes text.old) }
-    ensures bytes { OnOk result (string_bytes text.new ≡ string_bytes text.old ++ (if is_first then line.now else 10 ∷ line.now)) }
+    ensures bytes { let added = if is_first then line.now else 10 ∷ line.now in
+        OnOk result (string_bytes text.new ≡ string_bytes text.old ++ added) }
     ensures no_nul { OnOk result (HasNoNul (string_bytes text.new)) }
 {
     if !is_first {

@@ -56,7 +56,8 @@ pub(crate) fn has_nul(bytes: &[u8]) -> bool
 
 /// The text of these bytes, if they are UTF-8.
 pub(crate) fn decoded(bytes: &[u8]) -> Option<&str>
-    ensures { MatchOption result (is_utf8 bytes.now ≡ false) (λ s. (is_utf8 bytes.now ≡ true) × (s.now ≡ bytes.now)) }
+    ensures { let is = is_utf8 bytes.now in
+        MatchOption result (is ≡ false) (λ s. (is ≡ true) × (s.now ≡ bytes.now)) }
 {
     match str::from_utf8(bytes) {
         Ok(text) => Some(text),

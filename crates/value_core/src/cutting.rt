@@ -4,6 +4,7 @@ ghost use Rattle.std.specs.List.{filter, position_or_len, prefix_len, slice_spli
 ghost use Rattle.std.specs.Str.{IsCharBoundary};
 ghost use Rattle.value_core.specs.Cuts.{separates, is_piece, pieces_of, trimmed, trimmed_front, trimmed_end};
 ghost use Rattle.value_core.specs.Parts.{text_values};
+ghost use Rattle.value_core.specs.inside.Cutting.{IsListOf};
 ghost use Rattle.value_core.specs.Texts.{HasNoNul};
 ghost use Rattle.value_core.specs.Tokens.{is_blank};
 
@@ -44,7 +45,9 @@ fn piece_len(text: &[u8], separator: Separator) -> usize
 /// The text up to the first separator, and the text after it.
 fn cut_first(text: &str, separator: Separator) -> (&str, Option<&str>)
     requires { HasNoNul text.now }
-    ensures cut { MatchOption result.1 (slice_split (separates separator) text.now ≡ result.0.now ∷ []) (λ rest. slice_split (separates separator) text.now ≡ result.0.now ∷ slice_split (separates separator) rest.now) }
+    ensures cut { let pieces = slice_split (separates separator) in
+        MatchOption result.1 (pieces text.now ≡ result.0.now ∷ [])
+        (λ rest. pieces text.now ≡ result.0.now ∷ pieces rest.now) }
     ensures shorter { IfSome result.1 (λ rest. length rest.now < length text.now) }
     ensures no_nul { HasNoNul result.0.now }
     ensures rest_no_nul { IfSome result.1 (λ rest. HasNoNul rest.now) }
@@ -61,7 +64,8 @@ fn cut_first(text: &str, separator: Separator) -> (&str, Option<&str>)
 /// Adds a piece, unless it is empty.
 fn add_piece(alloc: Global, pieces: &mut ListOf<Value>, piece: &str) -> Result<(), NoMemory>
     requires { HasNoNul piece.now }
-    ensures { OnOk result (pieces.new ≡ pieces.old ++ text_values (filter is_piece (piece.now ∷ []))) }
+    ensures { let added = text_values (filter is_piece (piece.now ∷ [])) in
+        OnOk result (pieces.new ≡ pieces.old ++ added) }
 {
     if !piece.is_empty() {
         pieces.push(Value::Words(Text::of(alloc, piece)?))?;
@@ -76,7 +80,7 @@ pub(crate) fn pieces(
     separator: Separator,
 ) -> Result<Option<ListOf<Value>>, NoMemory>
     requires { HasNoNul text.now }
-    ensures { IfOk result (λ o. MatchOption o (256 < length (pieces_of separator text.now)) (λ ps. (ps ≡ text_values (pieces_of separator text.now)) × (length (pieces_of separator text.now) ≤ 256))) }
+    ensures { IfOk result (IsListOf (pieces_of separator text.now)) }
 {
     let mut pieces = ListOf::new(alloc);
     let mut rest = text;

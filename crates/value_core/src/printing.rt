@@ -3,8 +3,8 @@ ghost use Rattle.std.specs.Prelude.{◌≡◌, ◌++◌, ◌<◌, IfOk, OnOk, co
 ghost use Rattle.std.specs.Fmt.{decimal};
 ghost use Rattle.std.specs.String.{string_bytes};
 ghost use Rattle.std.specs.Char.{encode_utf8};
-ghost use Rattle.value_core.specs.Texts.{HasNoNul};
-ghost use Rattle.value_core.specs.Printed.{escaped, hex_escape, quoted, separated, printed, printed_outcome};
+ghost use Rattle.value_core.specs.Texts.{HasNoNul, KeepsNoNul};
+ghost use Rattle.value_core.specs.Printed.{escaped, hex_escape, list_text, pair_text, quoted, printed, printed_outcome};
 
 use crate::NoMemory;
 use crate::text::Text;
@@ -54,7 +54,7 @@ fn write_all_escaped(out: &mut String, text: &str) -> Result<(), NoMemory>
 fn write_mark(out: &mut String, mark: &str) -> Result<(), NoMemory>
     requires { HasNoNul mark.now }
     ensures bytes { OnOk result (string_bytes out.new ≡ string_bytes out.old ++ mark.now) }
-    ensures no_nul { OnOk result (HasNoNul (string_bytes out.old) → HasNoNul (string_bytes out.new)) }
+    ensures no_nul { OnOk result (KeepsNoNul (string_bytes out.old) (string_bytes out.new)) }
 {
     out.push_str(mark)?;
     Ok(())
@@ -64,7 +64,7 @@ fn write_mark(out: &mut String, mark: &str) -> Result<(), NoMemory>
 #[tactic(auto, using(crate::proofs::Nuls::no_nul_both, crate::proofs::Nuls::no_nul_grown, crate::proofs::Nuls::escaped_clean))]
 pub fn write_text(out: &mut String, text: &Text) -> Result<(), NoMemory>
     ensures bytes { OnOk result (string_bytes out.new ≡ string_bytes out.old ++ quoted text.now) }
-    ensures no_nul { OnOk result (HasNoNul (string_bytes out.old) → HasNoNul (string_bytes out.new)) }
+    ensures no_nul { OnOk result (KeepsNoNul (string_bytes out.old) (string_bytes out.new)) }
 {
     let text = text.as_str();
     write_mark(out, "\"")?;
@@ -76,7 +76,7 @@ pub fn write_text(out: &mut String, text: &Text) -> Result<(), NoMemory>
 #[tactic(auto, using(crate::proofs::Nuls::no_nul_grown, crate::proofs::Nuls::decimal_clean))]
 fn write_number(out: &mut String, n: u64) -> Result<(), NoMemory>
     ensures bytes { OnOk result (string_bytes out.new ≡ string_bytes out.old ++ decimal n) }
-    ensures no_nul { OnOk result (HasNoNul (string_bytes out.old) → HasNoNul (string_bytes out.new)) }
+    ensures no_nul { OnOk result (KeepsNoNul (string_bytes out.old) (string_bytes out.new)) }
 {
     write!(out, "{n}")?;
     Ok(())
@@ -86,7 +86,7 @@ fn write_number(out: &mut String, n: u64) -> Result<(), NoMemory>
 #[cycle(printing)]
 pub fn write_value(out: &mut String, v: &Value) -> Result<(), NoMemory>
     ensures bytes { OnOk result (string_bytes out.new ≡ string_bytes out.old ++ printed v.now) }
-    ensures no_nul { OnOk result (HasNoNul (string_bytes out.old) → HasNoNul (string_bytes out.new)) }
+    ensures no_nul { OnOk result (KeepsNoNul (string_bytes out.old) (string_bytes out.new)) }
 {
     match v {
         Value::Words(text) => write_text(out, text),
@@ -100,8 +100,9 @@ pub fn write_value(out: &mut String, v: &Value) -> Result<(), NoMemory>
 
 #[cycle(printing)]
 fn write_pair(out: &mut String, a: &Value, b: &Value) -> Result<(), NoMemory>
-    ensures bytes { OnOk result (string_bytes out.new ≡ string_bytes out.old ++ (codes "(" ++ (printed a.now ++ (codes ", " ++ (printed b.now ++ codes ")"))))) }
-    ensures no_nul { OnOk result (HasNoNul (string_bytes out.old) → HasNoNul (string_bytes out.new)) }
+    ensures bytes { let text = pair_text (printed a.now) (printed b.now) in
+        OnOk result (string_bytes out.new ≡ string_bytes out.old ++ text) }
+    ensures no_nul { OnOk result (KeepsNoNul (string_bytes out.old) (string_bytes out.new)) }
 {
     write_mark(out, "(")?;
     write_value(out, a)?;
@@ -113,8 +114,9 @@ fn write_pair(out: &mut String, a: &Value, b: &Value) -> Result<(), NoMemory>
 
 #[cycle(printing)]
 fn write_list(out: &mut String, items: &[Value]) -> Result<(), NoMemory>
-    ensures bytes { OnOk result (string_bytes out.new ≡ string_bytes out.old ++ (codes "[" ++ (separated (map printed items.now) ++ codes "]"))) }
-    ensures no_nul { OnOk result (HasNoNul (string_bytes out.old) → HasNoNul (string_bytes out.new)) }
+    ensures bytes { let text = list_text (map printed items.now) in
+        OnOk result (string_bytes out.new ≡ string_bytes out.old ++ text) }
+    ensures no_nul { OnOk result (KeepsNoNul (string_bytes out.old) (string_bytes out.new)) }
 {
     write_mark(out, "[")?;
     let mut is_first = true;
@@ -132,8 +134,9 @@ fn write_list(out: &mut String, items: &[Value]) -> Result<(), NoMemory>
 
 #[cycle(printing)]
 fn write_outcome(out: &mut String, o: &Outcome) -> Result<(), NoMemory>
-    ensures bytes { OnOk result (string_bytes out.new ≡ string_bytes out.old ++ printed_outcome o.now) }
-    ensures no_nul { OnOk result (HasNoNul (string_bytes out.old) → HasNoNul (string_bytes out.new)) }
+    ensures bytes { let text = printed_outcome o.now in
+        OnOk result (string_bytes out.new ≡ string_bytes out.old ++ text) }
+    ensures no_nul { OnOk result (KeepsNoNul (string_bytes out.old) (string_bytes out.new)) }
 {
     match o {
         Outcome::Fine(v) => {

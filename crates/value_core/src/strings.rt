@@ -101,7 +101,8 @@ fn step_at(mode: Mode, b: u8) -> Step
 /// The text of a string, read from the byte after its opening quote, and how many bytes it takes with the
 /// closing one.
 pub(crate) fn take_body(alloc: Global, bytes: &[u8]) -> Result<Option<(Vec<u8>, usize)>, NoMemory>
-    ensures text { IfOk result (λ o. MatchOption o (body_at Plain bytes.now ≡ None) (λ x. body_at Plain bytes.now ≡ Some (x.0.items, x.1))) }
+    ensures text { let body = body_at Plain bytes.now in
+        IfOk result (λ o. MatchOption o (body ≡ None) (λ x. body ≡ Some (x.0.items, x.1))) }
     ensures within { IfOk result (λ o. IfSome o (λ x. x.1 ≤ length bytes.now)) }
 {
     let mut text = Vec::new(alloc);

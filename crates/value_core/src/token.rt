@@ -69,7 +69,8 @@ impl From<AllocError> for TokenFault {
 /// The text of these bytes, if they are UTF-8.
 fn decoded_text(bytes: Vec<u8>) -> Option<Text>
     requires { no_nul bytes.items ≡ true }
-    ensures { MatchOption result (is_utf8 bytes.items ≡ false) (λ t. (t ≡ bytes.items) × (is_utf8 bytes.items ≡ true)) }
+    ensures { let is = is_utf8 bytes.items in
+        MatchOption result (is ≡ false) (λ t. (t ≡ bytes.items) × (is ≡ true)) }
 {
     match String::from_utf8(bytes) {
         Ok(text) => Some(Text::from_string(text)),

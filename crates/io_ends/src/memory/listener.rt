@@ -59,7 +59,8 @@ impl ListenerInMemory {
 
     /// The connections that came back, unless they are more than there is room for.
     pub fn back(&self) -> Option<&[ConnInMemory]>
-        ensures some { IfSome result (λ back. self.now.given_back ≡ Some (map written_on back.now)) }
+        ensures some { let given = self.now.given_back in
+            IfSome result (λ back. given ≡ Some (map written_on back.now)) }
         ensures none { IfNone result (self.now.given_back ≡ None) }
     {
         self.is_whole.then_some(self.back.as_slice())

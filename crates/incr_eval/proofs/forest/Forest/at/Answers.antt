@@ -1,6 +1,7 @@
-use Rattle.std.proofs.Common.{◌≡◌, ◌∙◌, ◌<◌, length, map, ap, sym, Some, slice_get}
+use Rattle.std.proofs.Common.{◌≡◌, ◌∙◌, ◌<◌, length, ap, sym, Some, slice_get}
 use Rattle.std.proofs.lemmas.Option.{slice_get-get_or}
-use Rattle.incr_eval.proofs.PooledTrees.{all_at, length-map, map_at}
+use Rattle.std.proofs.lemmas.List.{length-map}
+use Rattle.incr_eval.proofs.PooledTrees.{all_at, map_at}
 use Rattle.incr_eval.specs.Pooled.{seen, is_pooled}
 use Rattle.incr_eval.proofs.forest.Forest.at.Goals as goal
 

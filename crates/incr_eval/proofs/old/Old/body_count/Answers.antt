@@ -1,8 +1,6 @@
-use Rattle.std.proofs.Common.{◌≡◌, ◌∙◌, ap, sym, length, List}
-use Rattle.incr_eval.proofs.PooledTrees.{length-map, shown}
-use Rattle.incr_eval.specs.Pooled.{seen}
-use Rattle.incr_eval.specs.declared.twig.Twig.TheViews.{out-Twig}
-use Rattle.incr_eval.specs.declared.visit.Visit.{Visit}
+use Rattle.std.proofs.Common.{◌≡◌}
+use Rattle.std.proofs.lemmas.List.{length-map}
+use Rattle.incr_eval.proofs.PooledTrees.{shown}
 use Rattle.incr_eval.proofs.old.Old.body_count.Goals as goal
 
 pub returns : goal.returns

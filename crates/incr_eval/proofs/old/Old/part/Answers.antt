@@ -1,11 +1,9 @@
-use Rattle.std.proofs.Common.{◌≡◌, ◌∙◌, ◌<◌, ap, sym, length, List, Some, slice_get, arith}
+use Rattle.std.proofs.Common.{◌≡◌, ◌∙◌, ap, sym, Some, slice_get, arith}
 use Rattle.std.proofs.lemmas.Grind.{common_steps}
 use Rattle.std.proofs.lemmas.Option.{slice_get-get_or}
-use Rattle.incr_eval.proofs.PooledTrees.{all_at, part_smaller, length-map, map_at, shown, stands_told}
+use Rattle.std.proofs.lemmas.List.{length-map}
+use Rattle.incr_eval.proofs.PooledTrees.{all_at, part_smaller, map_at, shown, stands_told}
 use Rattle.incr_eval.specs.Pooled.{seen, is_pooled}
-use Rattle.incr_eval.specs.declared.twig.Twig.{Twig}
-use Rattle.incr_eval.specs.declared.twig.Twig.TheViews.{out-Twig}
-use Rattle.incr_eval.specs.declared.visit.Visit.TheViews.{out-Visit}
 use Rattle.incr_eval.proofs.old.Old.part.Goals as goal
 
 pub bounds-as_slice-i : goal.bounds-as_slice-i
