@@ -1,6 +1,7 @@
 pub mod Ordered
 pub mod Before
 pub mod Standing
+pub mod Rows
 pub mod Waits
 pub mod HintTable
 pub mod Picks

@@ -1,5 +1,5 @@
 -- What each change of a ticket leaves of the tickets, flags and queues.
-use Rattle.std.proofs.Common.{◌≡◌, ℕ, ◌+◌, ◌-◌, ◌<◌, ◌≤◌, Bool, true, false, cond, not, List, [], ◌∷◌, length, get_or, set, Some, None, is_some, refl, sym, ap, ◌∙◌, subst, arith}
+use Rattle.std.proofs.Common.{◌≡◌, ℕ, zero, suc, ◌+◌, ◌-◌, ◌<◌, ◌≤◌, Bool, true, false, cond, not, List, [], ◌∷◌, ◌++◌, length, get_or, set, Some, None, is_some, refl, sym, ap, ◌∙◌, subst, arith}
 use mathlib.Core.Bool.{beq}
 use Rattle.std.proofs.lemmas.Bool.{false≢true, true≢false}
 use Rattle.std.proofs.lemmas.List.{length-set}
@@ -7,7 +7,7 @@ use Rattle.std.proofs.lemmas.List.Edits.{length-remove, length-insert}
 use Rattle.std.specs.Prelude.{insert, remove, nat_lt, ◌==◌, if◌then◌else◌}
 use Rattle.std.specs.List.{AllByRecursion}
 use Rattle.fair_pool.specs.Fair.{job_before, ticket_of, has_ticket, without_ticket}
-use Rattle.fair_pool.specs.Kept.{rank_of, rank_before, queue_of, QueueState, with_queue, AreQueuesOf, IsWaitingKept}
+use Rattle.fair_pool.specs.Kept.{rank_of, rank_before, queue_of, QueueState, with_queue, AreQueuesOf, HaveNoRanks, IsWaitingKept}
 use Rattle.fair_pool.specs.Order.{leading, placed, displaced, Rises}
 use Rattle.fair_pool.proofs.Ordered.{leading_within, placed_insert, all_at, all_filter, all_placed, restored, insert-remove, Rises-filter}
 use Rattle.fair_pool.proofs.Standing.{found_at, has_at, without_ticket_at, fresh_others, Rises-with_ticket, length_queue, length-with_queue, room-with_queue, Stand, Stand-put, Stand-cut, Stand-there, Stand-from, Stand-to}
@@ -87,9 +87,9 @@ room_to_add ks rs qs spare m n pool d h l s =
     let g = q.room in
     omega arith
 
-added_at : (ks : List Ticket) (rs : List Bool) (qs : List QueueState) (spare m n : ℕ) (k : Ticket) (r : Bool) → IsWaitingKept ks rs qs spare m n → has_ticket k.job ks ≡ false → k.pool < length qs → 0 < spare →
-    IsWaitingKept (insert ks (index_of k.job ks) k) (insert rs (index_of k.job ks) r) (if r then with_queue (placed rank_before (rank_of k)) k.pool qs else qs) (spare - 1) m n
-added_at ks rs qs spare m n k r h fresh l s =
+added_at : (ks : List Ticket) (rs : List Bool) (qs : List QueueState) (spare m n n' : ℕ) (k : Ticket) (r : Bool) → IsWaitingKept ks rs qs spare m n → n ≤ n' → has_ticket k.job ks ≡ false → k.pool < length qs → 0 < spare →
+    IsWaitingKept (insert ks (index_of k.job ks) k) (insert rs (index_of k.job ks) r) (if r then with_queue (placed rank_before (rank_of k)) k.pool qs else qs) (spare - 1) m n'
+added_at ks rs qs spare m n n' k r h wider fresh l s =
     let at = index_of k.job ks in
     let within : at ≤ length ks = leading_within (λ x. nat_lt x.job k.job) ks in
     let in_flags : at ≤ length rs = let f = h.flags in omega arith in
@@ -110,10 +110,10 @@ added_at ks rs qs spare m n k r h fresh l s =
       flag_room = let x = h.flag_room in omega arith;
     }
 
-pub kept_added : (ks : List Ticket) (rs : List Bool) (qs : List QueueState) (spare m n : ℕ) (k : Ticket) (r : Bool) (at : ℕ) → at ≡ index_of k.job ks → IsWaitingKept ks rs qs spare m n → has_ticket k.job ks ≡ false → k.pool < length qs → 0 < spare →
-    IsWaitingKept (insert ks at k) (insert rs at r) (if r then with_queue (placed rank_before (rank_of k)) k.pool qs else qs) (spare - 1) m n
-kept_added ks rs qs spare m n k r at e h fresh l s =
-    subst (λ i. IsWaitingKept (insert ks i k) (insert rs i r) (if r then with_queue (placed rank_before (rank_of k)) k.pool qs else qs) (spare - 1) m n) (sym e) (added_at ks rs qs spare m n k r h fresh l s)
+pub kept_added : (ks : List Ticket) (rs : List Bool) (qs : List QueueState) (spare m n n' : ℕ) (k : Ticket) (r : Bool) (at : ℕ) → at ≡ index_of k.job ks → IsWaitingKept ks rs qs spare m n → n ≤ n' → has_ticket k.job ks ≡ false → k.pool < length qs → 0 < spare →
+    IsWaitingKept (insert ks at k) (insert rs at r) (if r then with_queue (placed rank_before (rank_of k)) k.pool qs else qs) (spare - 1) m n'
+kept_added ks rs qs spare m n n' k r at e h wider fresh l s =
+    subst (λ i. IsWaitingKept (insert ks i k) (insert rs i r) (if r then with_queue (placed rank_before (rank_of k)) k.pool qs else qs) (spare - 1) m n') (sym e) (added_at ks rs qs spare m n n' k r h wider fresh l s)
 
 -- ---- a ticket that stands at a rank, and the others
 
@@ -172,9 +172,9 @@ split_at job ks rs qs spare m n at k r h s =
           (subst (λ (x : List Ticket). AreQueuesOf x (insert (remove rs at) at r) spare qs) (sym tickets) (subst (λ (x : List Bool). AreQueuesOf ks x spare qs) (sym flags) h.queues));
     }
 
-pub kept_removed : (job : ℕ) (ks : List Ticket) (rs : List Bool) (qs : List QueueState) (spare m n at : ℕ) (k : Ticket) (r : Bool) → IsWaitingKept ks rs qs spare m n → SplitAt job ks rs qs at k r →
-    IsWaitingKept (remove ks at) (remove rs at) (if r then with_queue (displaced rank_before (rank_of k)) k.pool qs else qs) spare m n
-kept_removed job ks rs qs spare m n at k r h s =
+pub kept_removed : (job : ℕ) (ks : List Ticket) (rs : List Bool) (qs : List QueueState) (spare m m' n at : ℕ) (k : Ticket) (r : Bool) → IsWaitingKept ks rs qs spare m n → m ≤ m' + 1 → SplitAt job ks rs qs at k r →
+    IsWaitingKept (remove ks at) (remove rs at) (if r then with_queue (displaced rank_before (rank_of k)) k.pool qs else qs) spare m' n
+kept_removed job ks rs qs spare m m' n at k r h narrower s =
     let f = displaced rank_before (rank_of k) in
     let qs' = if r then with_queue f k.pool qs else qs in
     let lq : length qs' ≡ length qs = length_if r f k.pool qs in
@@ -241,6 +241,12 @@ kept_flagged job ks rs qs spare m n at k r b h s e =
     }
 
 -- ---- other queues with the same ranks
+
+pub HaveNoRanks-push : (qs : List QueueState) (q : QueueState) → q.ranks ≡ [] → HaveNoRanks qs → HaveNoRanks (qs ++ q ∷ [])
+HaveNoRanks-push [] q e h zero d l = e
+HaveNoRanks-push [] q e h (suc i) d l = absurd (omega arith)
+HaveNoRanks-push (p ∷ qs) q e h zero d l = h 0 d (omega arith)
+HaveNoRanks-push (p ∷ qs) q e h (suc i) d l = HaveNoRanks-push qs q e (λ j x m. h (suc j) x (omega arith)) i d (omega arith)
 
 pub kept_moved : (ks : List Ticket) (rs : List Bool) (qs qs' : List QueueState) (spare spare' m n m' n' : ℕ) → IsWaitingKept ks rs qs spare m n → length qs' ≡ length qs →
     ((pool : ℕ) (d : QueueState) → pool < length qs → (get_or qs' pool d).ranks ≡ (get_or qs pool d).ranks) →

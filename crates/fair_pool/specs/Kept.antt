@@ -9,7 +9,7 @@ use Rattle.fair_pool.specs.Fair.{allows, comes_before, job_before, same_bool, ti
 use Rattle.fair_pool.specs.Flags.{flagged, with_flag, without_flag}
 use Rattle.fair_pool.specs.Hints.{HintKey, HintWorkers, hint_key, hint_entry, hint_key_cmp}
 use Rattle.fair_pool.specs.Layouts.{Layout, worker_pool}
-use Rattle.fair_pool.specs.Order.{displaced, in_order, leading, placed, Rises}
+use Rattle.fair_pool.specs.Order.{displaced, in_order, leading, placed, IsInOrder, Rises}
 use Rattle.fair_pool.specs.Pools.{PoolsState}
 use Rattle.fair_pool.specs.Sound.{IsLayoutSound}
 use Rattle.fair_pool.specs.declared.ticket.HintWorker.{HintWorker}
@@ -30,6 +30,11 @@ rank_before a b = if same_bool a.urgent b.urgent then nat_lt a.start b.start || 
 pub record QueueState : Type 0 where
   pub ranks : List Rank
   pub room : ℕ
+
+-- the ranks of a queue are in order, and the room was made
+pub record IsQueueKept (ranks : List Rank) (room fit : ℕ) : Type 0 where
+  pub order : IsInOrder rank_before ranks
+  pub fits : room ≤ fit
 
 -- the queues, where one has its ranks changed
 abbrev pub with_queue : (List Rank → List Rank) → ℕ → List QueueState → List QueueState
@@ -90,6 +95,11 @@ pub record IsQueueOf (ks : List Ticket) (rs : List Bool) (spare pool : ℕ) (q :
 -- each pool has its queue
 abbrev pub AreQueuesOf : List Ticket → List Bool → ℕ → List QueueState → Type 0
 AreQueuesOf ks rs spare qs = (pool : ℕ) (d : QueueState) → pool < length qs → IsQueueOf ks rs spare pool (slice_index_or qs pool d)
+
+-- tickets in a row, and how many there is room for
+pub record TicketsState : Type 0 where
+  pub items : List Ticket
+  pub room : ℕ
 
 -- the tickets with their flags, how many pools there are, and for how many more tickets there is room
 pub record WaitingState : Type 0 where

@@ -28,7 +28,10 @@ impl Model for Hints {
 
     ghost coded = { hints_code };
 
-    ghost view = { λ h. record { workers = hint_table h.known.items; room = vec_capacity h.known - length h.known.items } };
+    ghost view = { λ h. record {
+      workers = hint_table h.known.items;
+      room = vec_capacity h.known - length h.known.items;
+    } };
 
     ghost invariant = { λ h. AreHintsKept h.known.items };
 }

@@ -69,9 +69,17 @@ impl Model for Declared {
 
     ghost coded = { layout_code };
 
-    ghost view = { λ d. record { pools = d.pools.items; clients = d.clients.items; workers = d.workers.items } };
+    ghost view = { λ d. record {
+      pools = d.pools.items;
+      clients = d.clients.items;
+      workers = d.workers.items;
+    } };
 
-    ghost invariant = { λ d. IsLayoutSound (record { pools = d.pools.items; clients = d.clients.items; workers = d.workers.items }) };
+    ghost invariant = { λ d. IsLayoutSound (record {
+      pools = d.pools.items;
+      clients = d.clients.items;
+      workers = d.workers.items;
+    }) };
 }
 
 impl Declared {

@@ -11,8 +11,9 @@ mod pools;
 mod queue;
 mod room;
 mod ticket;
+mod tickets;
 mod waiting;
 
 pub use pools::{Pools, RateOutOfRange};
-pub use room::insert_within;
+pub use room::{insert_within, put_at, take_at};
 pub use ticket::{HintWorker, Ticket};

@@ -59,7 +59,8 @@ impl Model for Pools {
       spare = p.waiting.spare;
     } };
 
-    ghost invariant = { λ p. ArePoolsKept p.declared p.waiting p.next.items p.rates.items p.paused.items p.loads.items p.hints.room };
+    ghost invariant = { λ p. ArePoolsKept p.declared p.waiting p.next.items p.rates.items
+        p.paused.items p.loads.items p.hints.room };
 }
 
 fn declared_rates(alloc: Global, clients: &[ClientDecl]) -> Result<Vec<u64>, NoMemory>

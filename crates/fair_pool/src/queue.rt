@@ -3,31 +3,33 @@ ghost use Rattle.std.specs.Prelude.{◌≡◌, ◌<◌, ◌+◌, ◌≤◌, [], 
 ghost use Rattle.fair_pool.specs.Kept.{rank_before};
 ghost use Rattle.fair_pool.specs.Order.{leading, placed, displaced};
 
-use crate::room::insert_within;
+use crate::room::{put_at, take_at};
 use crate::ticket::Rank;
 use std::alloc::Global;
+use std::collections::VecDeque;
 use std::marker::Model;
 use value_core::NoMemory;
 
 /// Ranks in order, searched by halving, and room for more.
 #[derive(Drop)]
 pub(crate) struct Queue {
-    ranks: Vec<Rank>,
+    ranks: VecDeque<Rank>,
+    /// For how many there is room.
+    room: usize,
 }
 
 impl Model for Queue {
-    ghost use Rattle.std.specs.Vec.{vec_capacity};
+    ghost use Rattle.std.specs.VecDeque.{deque_capacity};
     ghost use Rattle.fair_pool.specs.KeptCodes.{queue_code};
-    ghost use Rattle.fair_pool.specs.Kept.{QueueState, rank_before};
-    ghost use Rattle.fair_pool.specs.Order.{IsInOrder};
+    ghost use Rattle.fair_pool.specs.Kept.{IsQueueKept, QueueState};
 
     ghost Value = { QueueState };
 
     ghost coded = { queue_code };
 
-    ghost view = { λ q. record { ranks = q.ranks.items; room = vec_capacity q.ranks } };
+    ghost view = { λ q. record { ranks = q.ranks.items; room = q.room } };
 
-    ghost invariant = { λ q. IsInOrder rank_before q.ranks.items };
+    ghost invariant = { λ q. IsQueueKept q.ranks.items q.room (deque_capacity q.ranks) };
 }
 
 impl Queue {
@@ -37,21 +39,22 @@ impl Queue {
         ensures { result.ranks ≡ [] }
     {
         Queue {
-            ranks: Vec::new(alloc),
+            ranks: VecDeque::new(alloc),
+            room: 0,
         }
     }
 
-    pub(crate) fn ranks(&self) -> &[Rank]
-        ensures { result.now ≡ self.now.ranks }
+    pub(crate) fn ranks(&self) -> &VecDeque<Rank>
+        ensures { result.now.items ≡ self.now.ranks }
     {
-        self.ranks.as_slice()
+        &self.ranks
     }
 
     /// How many ranks come before one.
     fn index_of(&self, rank: Rank) -> usize
         ensures { result ≡ leading (λ p. rank_before p rank) self.now.ranks }
     {
-        self.ranks.as_slice().partition_point(
+        self.ranks.partition_point(
             |p: &Rank| -> bool
                 ensures { result ≡ rank_before p.now rank }
             { p.comes_before(&rank) },
@@ -64,7 +67,7 @@ impl Queue {
         ensures { self.new ≡ record self.old { ranks = placed rank_before rank self.old.ranks } }
     {
         let at = self.index_of(rank);
-        insert_within(&mut self.ranks, at, rank);
+        put_at(&mut self.ranks, at, rank);
     }
 
     /// Takes a rank away: the first that doesn't come before this one.
@@ -73,7 +76,7 @@ impl Queue {
         ensures { self.new ≡ record self.old { ranks = displaced rank_before rank self.old.ranks } }
     {
         let at = self.index_of(rank);
-        self.ranks.remove(at);
+        let _rank = take_at(&mut self.ranks, at);
     }
 
     /// Makes room for so many ranks in all.
@@ -83,7 +86,9 @@ impl Queue {
         ensures ok { OnOk result (count ≤ self.new.room) }
     {
         let more = count.saturating_sub(self.ranks.len());
-        self.ranks.reserve(more)
+        self.ranks.reserve(more)?;
+        self.room = self.room.max(count);
+        Ok(())
     }
 
     /// An equal queue, with room for so many ranks in all.
@@ -91,8 +96,13 @@ impl Queue {
         requires { length self.now.ranks ≤ count }
         ensures { IfOk result (λ q. (q.ranks ≡ self.now.ranks) × (count ≤ q.room)) }
     {
+        let (front, rest) = self.ranks.as_slices();
         let mut ranks = Vec::with_capacity(alloc, count)?;
-        ranks.extend_from_slice(self.ranks.as_slice())?;
-        Ok(Queue { ranks })
+        ranks.extend_from_slice(front)?;
+        ranks.extend_from_slice(rest)?;
+        Ok(Queue {
+            ranks: VecDeque::from_vec(ranks),
+            room: count,
+        })
     }
 }

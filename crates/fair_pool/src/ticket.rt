@@ -48,6 +48,18 @@ fn copy_of_hint(alloc: Global, hint: &Option<Text>) -> Result<Option<Text>, NoMe
 }
 
 impl Ticket {
+    /// A ticket that stands for none.
+    pub(crate) fn blank() -> Ticket {
+        Ticket {
+            job: 0,
+            pool: 0,
+            urgent: false,
+            hint: None,
+            start: 0,
+            created: 0,
+        }
+    }
+
     /// An equal ticket.
     pub fn copy(&self, alloc: Global) -> Result<Ticket, NoMemory>
         ensures { IfOk result (λ k. k ≡ self.now) }

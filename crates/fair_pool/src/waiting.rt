@@ -8,9 +8,11 @@ ghost use Rattle.fair_pool.specs.Kept.{HasRankAt, HasRoomAt, HaveFewRanks, HaveN
 ghost use Rattle.fair_pool.specs.Order.{leading, placed, displaced, Rises};
 
 use crate::queue::Queue;
-use crate::room::insert_within;
+use crate::room::{put_at, take_at};
 use crate::ticket::{Rank, Ticket};
+use crate::tickets::Tickets;
 use std::alloc::{AllocError, Global};
+use std::collections::VecDeque;
 use std::marker::Model;
 use value_core::NoMemory;
 
@@ -18,9 +20,9 @@ use value_core::NoMemory;
 #[derive(Drop)]
 pub(crate) struct Waiting {
     /// In order of jobs, searched by halving.
-    tickets: Vec<Ticket>,
+    tickets: Tickets,
     /// Whether each ticket's job is ready.
-    ready: Vec<bool>,
+    ready: VecDeque<bool>,
     /// For each pool the ranks of its ready tickets.
     queues: Vec<Queue>,
     /// For how many more tickets there is room.
@@ -29,7 +31,7 @@ pub(crate) struct Waiting {
 
 impl Model for Waiting {
     ghost use Rattle.std.specs.Prelude.{length};
-    ghost use Rattle.std.specs.Vec.{vec_capacity};
+    ghost use Rattle.std.specs.VecDeque.{deque_capacity};
     ghost use Rattle.fair_pool.specs.KeptCodes.{waiting_code};
     ghost use Rattle.fair_pool.specs.Kept.{WaitingState, IsWaitingKept};
 
@@ -37,9 +39,15 @@ impl Model for Waiting {
 
     ghost coded = { waiting_code };
 
-    ghost view = { λ w. record { tickets = w.tickets.items; ready = w.ready.items; pools = length w.queues.items; spare = w.spare } };
+    ghost view = { λ w. record {
+      tickets = w.tickets.items;
+      ready = w.ready.items;
+      pools = length w.queues.items;
+      spare = w.spare;
+    } };
 
-    ghost invariant = { λ w. IsWaitingKept w.tickets.items w.ready.items w.queues.items w.spare (vec_capacity w.tickets) (vec_capacity w.ready) };
+    ghost invariant = { λ w. IsWaitingKept w.tickets.items w.ready.items w.queues.items
+        w.spare w.tickets.room (deque_capacity w.ready) };
 }
 
 fn empty_queues(alloc: Global, count: usize) -> Result<Vec<Queue>, NoMemory>
@@ -66,12 +74,12 @@ fn copy_of_queues(alloc: Global, queues: &[Queue], count: usize) -> Result<Vec<Q
     Ok(copies)
 }
 
-fn copy_of_tickets(alloc: Global, tickets: &[Ticket]) -> Result<Vec<Ticket>, NoMemory>
-    ensures { IfOk result (λ ks. ks.items ≡ tickets.now) }
+fn copy_of_flags(alloc: Global, flags: &VecDeque<bool>) -> Result<VecDeque<bool>, NoMemory>
+    ensures { IfOk result (λ rs. rs.items ≡ flags.now.items) }
 {
-    let mut copies = Vec::new(alloc);
-    for ticket in tickets {
-        copies.push(ticket.copy(alloc)?)?;
+    let mut copies = VecDeque::with_capacity(alloc, flags.len())?;
+    for flag in flags {
+        copies.push_back(*flag)?;
     }
     Ok(copies)
 }
@@ -122,8 +130,8 @@ impl Waiting {
         ensures { IfOk result (λ w. w ≡ no_tickets pools) }
     {
         Ok(Waiting {
-            tickets: Vec::new(alloc),
-            ready: Vec::new(alloc),
+            tickets: Tickets::new(alloc),
+            ready: VecDeque::new(alloc),
             queues: empty_queues(alloc, pools)?,
             spare: 0,
         })
@@ -157,17 +165,19 @@ impl Waiting {
         ensures { option_copied result ≡ ticket_of job self.now.tickets }
     {
         let at = self.index_of(job);
-        if at < self.tickets.len() && self.tickets[at].job == job {
-            Some(&self.tickets[at])
+        let ticket = self.tickets.as_slice().get(at)?;
+        if ticket.job == job {
+            Some(ticket)
         } else {
             None
         }
     }
 
     /// The ranks of a pool's ready tickets, the next one first.
-    pub(crate) fn queue(&self, pool: usize) -> &[Rank]
+    pub(crate) fn queue(&self, pool: usize) -> &VecDeque<Rank>
         requires { pool < self.now.pools }
-        ensures ranks { result.now ≡ map rank_of (queue_of pool self.now.tickets self.now.ready) }
+        ensures ranks { let queue = queue_of pool self.now.tickets self.now.ready in
+            result.now.items ≡ map rank_of queue }
         ensures rising { Rises job_before self.now.tickets }
     {
         self.queues[pool].ranks()
@@ -184,8 +194,8 @@ impl Waiting {
         let pool = ticket.pool as usize;
         let rank = ticket.rank();
         enqueue_ready(&mut self.queues, pool, rank, ready);
-        insert_within(&mut self.tickets, at, ticket);
-        insert_within(&mut self.ready, at, ready);
+        self.tickets.insert(at, ticket);
+        put_at(&mut self.ready, at, ready);
         self.spare -= 1;
     }
 
@@ -198,7 +208,7 @@ impl Waiting {
         if self.ready[at] == ready {
             return;
         }
-        let ticket = &self.tickets[at];
+        let ticket = self.tickets.get(at);
         let pool = ticket.pool as usize;
         let rank = ticket.rank();
         enqueue_ready(&mut self.queues, pool, rank, ready);
@@ -214,7 +224,7 @@ impl Waiting {
     {
         let at = self.index_of(job);
         let ticket = self.tickets.remove(at);
-        let was_ready = self.ready.remove(at);
+        let was_ready = take_at(&mut self.ready, at);
         let pool = ticket.pool as usize;
         let rank = ticket.rank();
         dequeue_ready(&mut self.queues, pool, rank, was_ready);
@@ -229,7 +239,7 @@ impl Waiting {
         if more <= self.spare {
             return Ok(());
         }
-        let count = self.tickets.len().checked_add(more).ok_or(AllocError)?;
+        let count = self.tickets().len().checked_add(more).ok_or(AllocError)?;
         self.tickets.reserve(more)?;
         self.ready.reserve(more)?;
         reserve_all(&mut self.queues, count)?;
@@ -242,9 +252,9 @@ impl Waiting {
         ensures { IfOk result (λ w. w ≡ record self.now { spare = 0 }) }
     {
         Ok(Waiting {
-            tickets: copy_of_tickets(alloc, self.tickets.as_slice())?,
-            ready: Vec::from_slice(alloc, self.ready.as_slice())?,
-            queues: copy_of_queues(alloc, self.queues.as_slice(), self.tickets.len())?,
+            tickets: self.tickets.copy(alloc)?,
+            ready: copy_of_flags(alloc, &self.ready)?,
+            queues: copy_of_queues(alloc, self.queues.as_slice(), self.tickets().len())?,
             spare: 0,
         })
     }

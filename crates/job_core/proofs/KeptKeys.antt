@@ -19,10 +19,10 @@ keys_changed n f js spare ns fit number triple plain h = record {
   in_keys = h.in_keys ∙ sym (numbers_like (with_job n f js) js (plain_with n f js plain));
 }
 
-pub keys_more : (js : List Job) (j : Job) (spare : ℕ) (ns : List ℕ) (fit at : ℕ) → JobsBelow j.number js → live_on js j.triple.op j.triple.key ≡ None → 0 < spare → at ≡ key_rank j.triple.op j.triple.key js →
-    AreKeysKept js spare ns fit → AreKeysKept (js ++ j ∷ []) (spare - 1) (insert ns at j.number) fit
-keys_more js j spare ns fit at below free some e h = record {
-  live = kept_more js j spare fit fit below free some (omega arith) h.live;
+pub keys_more : (js : List Job) (j : Job) (spare : ℕ) (ns : List ℕ) (fit more at : ℕ) → JobsBelow j.number js → live_on js j.triple.op j.triple.key ≡ None → 0 < spare → at ≡ key_rank j.triple.op j.triple.key js → fit ≤ more →
+    AreKeysKept js spare ns fit → AreKeysKept (js ++ j ∷ []) (spare - 1) (insert ns at j.number) more
+keys_more js j spare ns fit more at below free some e wider h = record {
+  live = kept_more js j spare fit more below free some wider h.live;
   in_keys = (λ i. insert (h.in_keys i) (e i) j.number) ∙ sym (number_pushed js j free);
 }
 

@@ -167,7 +167,7 @@ impl Jobs {
         ensures { IfOk result (λ js. map (λ j. j.now) js ≡ self.now.work.jobs) }
     {
         let mut jobs = ListOf::new(self.alloc);
-        for job in self.live.as_slice() {
+        for job in self.live.all() {
             jobs.push(job)?;
         }
         Ok(jobs)
@@ -178,5 +178,5 @@ impl Jobs {
 pub fn jobs_law(jobs: &Jobs)
     ensures { AreJobsLawful jobs.now.work }
 {
-    let _jobs = jobs.live.as_slice();
+    let _jobs = jobs.live.all();
 }

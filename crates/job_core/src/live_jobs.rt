@@ -1,7 +1,7 @@
 //! Live jobs, found by their numbers and by their operations and keys.
 ghost use Rattle.std.specs.Prelude.{◌≡◌, ◌-◌, ◌^◌, ◌<◌, ◌≤◌, [], ◌∷◌, ◌++◌, true, length, max, slice_get, vec_len, insert, IfOk, OnOk, OnErr, Some, None};
 ghost use Rattle.std.specs.Option.{option_copied};
-ghost use Rattle.std.specs.Vec.{vec_capacity};
+ghost use Rattle.std.specs.VecDeque.{deque_capacity};
 ghost use Rattle.value_core.specs.Orders.{same_triple};
 ghost use Rattle.core_rules.specs.Core.{has_job, job_numbered, with_job, without_job};
 ghost use Rattle.core_rules.specs.Entries.{job_of};
@@ -12,9 +12,10 @@ ghost use Rattle.job_core.specs.Walks.{is_job_past};
 
 use crate::numbered::Numbered;
 use core_rules::{Job, Mark};
-use fair_pool::insert_within;
+use fair_pool::{put_at, take_at};
 use std::alloc::Global;
 use std::cmp::Ordering;
+use std::collections::VecDeque;
 use std::marker::Model;
 use value_core::{NoMemory, Text, Triple};
 
@@ -23,11 +24,11 @@ use value_core::{NoMemory, Text, Triple};
 pub(crate) struct LiveJobs {
     numbered: Numbered,
     /// The jobs' numbers in order of operations and keys, searched by halving.
-    by_key: Vec<u64>,
+    by_key: VecDeque<u64>,
 }
 
 impl Model for LiveJobs {
-    ghost use Rattle.std.specs.Vec.{vec_capacity};
+    ghost use Rattle.std.specs.VecDeque.{deque_capacity};
     ghost use Rattle.job_core.specs.Live.{LiveState, live_code};
     ghost use Rattle.job_core.specs.Keys.{AreKeysKept};
 
@@ -37,7 +38,7 @@ impl Model for LiveJobs {
 
     ghost view = { λ l. record { jobs = l.numbered.jobs; spare = l.numbered.spare } };
 
-    ghost invariant = { λ l. AreKeysKept l.numbered.jobs l.numbered.spare l.by_key.items (vec_capacity l.by_key) };
+    ghost invariant = { λ l. AreKeysKept l.numbered.jobs l.numbered.spare l.by_key.items (deque_capacity l.by_key) };
 }
 
 /// How a triple's operation and key compare to these.
@@ -84,16 +85,16 @@ impl LiveJobs {
     {
         LiveJobs {
             numbered: Numbered::new(alloc),
-            by_key: Vec::new(alloc),
+            by_key: VecDeque::new(alloc),
         }
     }
 
-    pub(crate) fn as_slice(&self) -> &[Job]
-        ensures jobs { result.now ≡ self.now.jobs }
+    pub(crate) fn all(&self) -> &VecDeque<Job>
+        ensures jobs { result.now.items ≡ self.now.jobs }
         ensures rising { Rising self.now.jobs }
         ensures one_each { OneEach self.now.jobs }
     {
-        self.numbered.as_slice()
+        self.numbered.all()
     }
 
     /// How many jobs have a lesser operation and key.
@@ -103,7 +104,7 @@ impl LiveJobs {
         ensures one_each { OneEach self.now.jobs }
     {
         let jobs = &self.numbered;
-        self.by_key.as_slice().partition_point(
+        self.by_key.partition_point(
             |number: &u64| -> bool
                 ensures { result ≡ is_number_before op key.entry.now jobs.entry.now.jobs number.now }
             { jobs.comes_before(*number, op, key) },
@@ -180,7 +181,7 @@ impl LiveJobs {
         ensures { self.new ≡ added job self.old }
     {
         let at = self.key_rank(job.triple.op, &job.triple.key);
-        insert_within(&mut self.by_key, at, job.number);
+        put_at(&mut self.by_key, at, job.number);
         self.numbered.add(job);
     }
 
@@ -204,7 +205,7 @@ impl LiveJobs {
         ensures rising { Rising self.old.jobs }
     {
         let at = self.key_rank_of(number);
-        self.by_key.remove(at);
+        let _number = take_at(&mut self.by_key, at);
         self.numbered.remove(number)
     }
 
@@ -246,11 +247,13 @@ impl LiveJobs {
     pub(crate) fn copy(&self, alloc: Global) -> Result<LiveJobs, NoMemory>
         ensures { IfOk result (λ l. l ≡ record self.now { spare = 0 }) }
     {
-        let mut by_key = Vec::new(alloc);
-        by_key.extend_from_slice(self.by_key.as_slice())?;
+        let (front, rest) = self.by_key.as_slices();
+        let mut by_key = Vec::with_capacity(alloc, self.by_key.len())?;
+        by_key.extend_from_slice(front)?;
+        by_key.extend_from_slice(rest)?;
         Ok(LiveJobs {
             numbered: self.numbered.copy(alloc)?,
-            by_key,
+            by_key: VecDeque::from_vec(by_key),
         })
     }
 }

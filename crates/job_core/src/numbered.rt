@@ -1,14 +1,16 @@
 //! Live jobs in order of their numbers.
 ghost use Rattle.std.specs.Prelude.{◌≡◌, ◌-◌, ◌<◌, ◌≤◌, [], ◌∷◌, ◌++◌, true, max, nat_lt, vec_len, IfOk, OnOk, OnErr, Some, None};
 ghost use Rattle.std.specs.Option.{option_copied};
-ghost use Rattle.std.specs.Vec.{vec_capacity};
+ghost use Rattle.std.specs.VecDeque.{deque_capacity};
 ghost use Rattle.fair_pool.specs.Order.{leading};
 ghost use Rattle.core_rules.specs.Core.{has_job, job_numbered, with_job, without_job};
 ghost use Rattle.core_rules.specs.Laws.{JobsBelow, OneEach, Rising};
 ghost use Rattle.core_rules.specs.Settling.{live_on};
 
 use core_rules::{Job, Mark};
+use fair_pool::take_at;
 use std::alloc::Global;
+use std::collections::VecDeque;
 use std::marker::Model;
 use value_core::NoMemory;
 
@@ -16,13 +18,13 @@ use value_core::NoMemory;
 #[derive(Drop)]
 pub(crate) struct Numbered {
     /// In order of numbers, searched by halving.
-    jobs: Vec<Job>,
+    jobs: VecDeque<Job>,
     /// For how many more jobs there is room.
     spare: usize,
 }
 
 impl Model for Numbered {
-    ghost use Rattle.std.specs.Vec.{vec_capacity};
+    ghost use Rattle.std.specs.VecDeque.{deque_capacity};
     ghost use Rattle.job_core.specs.Live.{AreLiveKept, LiveState, live_code};
 
     ghost Value = { LiveState };
@@ -31,26 +33,15 @@ impl Model for Numbered {
 
     ghost view = { λ l. record { jobs = l.jobs.items; spare = l.spare } };
 
-    ghost invariant = { λ l. AreLiveKept l.jobs.items l.spare (vec_capacity l.jobs) };
+    ghost invariant = { λ l. AreLiveKept l.jobs.items l.spare (deque_capacity l.jobs) };
 }
 
-/// Adds an item at the end, and needs no memory.
-fn push_within<T: Drop>(items: &mut Vec<T>, item: T)
-    requires { vec_len items.old < vec_capacity items.old }
-    ensures items { items.new.items ≡ items.old.items ++ item ∷ [] }
-    ensures capacity { vec_capacity items.old ≤ vec_capacity items.new }
+fn copy_of_jobs(alloc: Global, jobs: &VecDeque<Job>) -> Result<VecDeque<Job>, NoMemory>
+    ensures { IfOk result (λ js. js.items ≡ jobs.now.items) }
 {
-    if items.push(item).is_err() {
-        unreachable!()
-    }
-}
-
-fn copy_of_jobs(alloc: Global, jobs: &[Job]) -> Result<Vec<Job>, NoMemory>
-    ensures { IfOk result (λ js. js.items ≡ jobs.now) }
-{
-    let mut copies = Vec::new(alloc);
+    let mut copies = VecDeque::new(alloc);
     for job in jobs {
-        copies.push(job.copy(alloc)?)?;
+        copies.push_back(job.copy(alloc)?)?;
     }
     Ok(copies)
 }
@@ -62,24 +53,24 @@ impl Numbered {
         ensures { result ≡ record { jobs = []; spare = 0 } }
     {
         Numbered {
-            jobs: Vec::new(alloc),
+            jobs: VecDeque::new(alloc),
             spare: 0,
         }
     }
 
-    pub(crate) fn as_slice(&self) -> &[Job]
-        ensures jobs { result.now ≡ self.now.jobs }
+    pub(crate) fn all(&self) -> &VecDeque<Job>
+        ensures jobs { result.now.items ≡ self.now.jobs }
         ensures rising { Rising self.now.jobs }
         ensures one_each { OneEach self.now.jobs }
     {
-        self.jobs.as_slice()
+        &self.jobs
     }
 
     /// How many jobs have a smaller number.
     fn rank(&self, number: u64) -> usize
         ensures { result ≡ leading (λ j. nat_lt j.number number) self.now.jobs }
     {
-        self.jobs.as_slice().partition_point(
+        self.jobs.partition_point(
             |j: &Job| -> bool
                 ensures { result ≡ nat_lt j.now.number number }
             { j.number < number },
@@ -106,7 +97,7 @@ impl Numbered {
         requires room { 0 < self.old.spare }
         ensures { self.new ≡ added job self.old }
     {
-        push_within(&mut self.jobs, job);
+        self.jobs.push_back_reserved(job);
         self.spare -= 1;
     }
 
@@ -118,7 +109,7 @@ impl Numbered {
         ensures rising { Rising self.old.jobs }
     {
         let at = self.rank(number);
-        self.jobs.remove(at)
+        take_at(&mut self.jobs, at)
     }
 
     /// The job of a number may start.
@@ -167,7 +158,7 @@ impl Numbered {
         ensures { IfOk result (λ l. l ≡ record self.now { spare = 0 }) }
     {
         Ok(Numbered {
-            jobs: copy_of_jobs(alloc, self.jobs.as_slice())?,
+            jobs: copy_of_jobs(alloc, &self.jobs)?,
             spare: 0,
         })
     }

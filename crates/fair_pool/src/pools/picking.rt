@@ -7,6 +7,7 @@ ghost use Rattle.fair_pool.specs.Pools.{allows_in, has_waited_in, looked_of, pic
 
 use super::Pools;
 use crate::ticket::{Rank, Ticket};
+use std::collections::VecDeque;
 use std::sync::ledger::Ledger;
 use value_core::Steps;
 
@@ -76,17 +77,17 @@ impl Pools {
     }
 
     /// The ranks of the ready tickets of a worker's pool, the next one first.
-    fn queue(&self, worker: u32) -> &[Rank]
+    fn queue(&self, worker: u32) -> &VecDeque<Rank>
         requires { worker < length self.now.layout.workers }
-        ensures ranks { result.now ≡ ranks_for self.now worker }
+        ensures ranks { result.now.items ≡ ranks_for self.now worker }
         ensures rising { Rises job_before self.now.fair.tickets }
     {
         self.waiting.queue(self.declared.worker_pool(worker))
     }
 
     /// The first job of these that a worker may take.
-    fn first_allowed(&self, ranks: &[Rank], worker: u32, now: u64) -> Option<u64>
-        ensures { result ≡ first_job (allows_job self.now now worker) ranks.now }
+    fn first_allowed(&self, ranks: &VecDeque<Rank>, worker: u32, now: u64) -> Option<u64>
+        ensures { result ≡ first_job (allows_job self.now now worker) ranks.now.items }
     {
         for rank in ranks {
             if self.allows_job(rank.job, worker, now) {
@@ -99,13 +100,13 @@ impl Pools {
     /// The same, with a step for each that is looked at.
     fn first_counted<L: Ledger>(
         &self,
-        ranks: &[Rank],
+        ranks: &VecDeque<Rank>,
         worker: u32,
         now: u64,
         steps: &mut Steps<L>,
     ) -> Option<u64>
-        ensures answer { result ≡ first_job (allows_job self.now now worker) ranks.now }
-        ensures steps { steps.new ≡ steps.old + looked_by self.now now worker ranks.now }
+        ensures answer { result ≡ first_job (allows_job self.now now worker) ranks.now.items }
+        ensures steps { steps.new ≡ steps.old + looked_by self.now now worker ranks.now.items }
     {
         for rank in ranks {
             steps.tick();

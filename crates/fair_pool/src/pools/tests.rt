@@ -22,7 +22,8 @@ fn one_pool(alloc: Global) -> Result<ListOf<PoolDecl>, NoMemory>
 }
 
 fn one_client(alloc: Global) -> Result<ListOf<ClientDecl>, NoMemory>
-    ensures { IfOk result (λ ds. ds ≡ record { name = codes "c"; pool = codes "p"; rate = 2 } ∷ []) }
+    ensures { IfOk result
+        (λ ds. ds ≡ record { name = codes "c"; pool = codes "p"; rate = 2 } ∷ []) }
 {
     let name = Text::of(alloc, "c")?;
     let pool = Text::of(alloc, "p")?;
@@ -36,7 +37,8 @@ fn one_client(alloc: Global) -> Result<ListOf<ClientDecl>, NoMemory>
 }
 
 fn one_worker(alloc: Global) -> Result<ListOf<WorkerDecl>, NoMemory>
-    ensures { IfOk result (λ ds. ds ≡ record { name = codes "w"; pool = codes "p"; capacity = 1 } ∷ []) }
+    ensures { IfOk result
+        (λ ds. ds ≡ record { name = codes "w"; pool = codes "p"; capacity = 1 } ∷ []) }
 {
     let name = Text::of(alloc, "w")?;
     let pool = Text::of(alloc, "p")?;

@@ -11,6 +11,7 @@ use crate::answers::{Cancelled, JobFault};
 use core_rules::{Job, Mark, stage_under};
 use fair_pool::{Pools, RateOutOfRange};
 use op_keys::{Level, OpDecl};
+use std::collections::VecDeque;
 use value_core::Stage;
 
 pub(super) fn is_ready(stage: Stage) -> bool
@@ -24,11 +25,12 @@ pub(super) fn is_ready(stage: Stage) -> bool
 }
 
 /// Queued jobs become ready, or are no longer, by the level of the moment.
-fn set_stages(ops: &[OpDecl], threshold: Option<Level>, jobs: &[Job], pools: &mut Pools)
-    requires { AreTicketsOf jobs.now pools.old }
-    ensures { pools.new ≡ restaged_pools ops.now threshold jobs.now pools.old }
+fn set_stages(ops: &[OpDecl], threshold: Option<Level>, jobs: &VecDeque<Job>, pools: &mut Pools)
+    requires { AreTicketsOf jobs.now.items pools.old }
+    ensures { pools.new ≡ restaged_pools ops.now threshold jobs.now.items pools.old }
 {
-    for job in jobs {
+    for index in 0..jobs.len() {
+        let job = &jobs[index];
         if job.worker.is_none() {
             let op = op_at(ops, job.triple.op);
             let ready = is_ready(stage_under(threshold, op, job));
@@ -52,7 +54,7 @@ impl Jobs {
         set_stages(
             self.program.ops.as_slice(),
             threshold,
-            self.live.as_slice(),
+            self.live.all(),
             &mut self.pools,
         );
     }

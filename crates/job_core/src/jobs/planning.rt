@@ -213,9 +213,9 @@ impl Jobs {
         ensures room { self.old.spare ≤ self.new.spare }
         ensures err { OnErr result (self.new ≡ self.old) }
     {
-        let _before = self.live.as_slice();
+        let _before = self.live.all();
         let live = self.jobs_after(own, now)?;
-        let _jobs = live.as_slice();
+        let _jobs = live.all();
         let Unwanted { drops, lost } = Unwanted::find(
             self.alloc,
             wants,

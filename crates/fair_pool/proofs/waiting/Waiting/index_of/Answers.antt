@@ -9,7 +9,7 @@ use Rattle.fair_pool.proofs.waiting.Waiting.index_of.Goals as goal
 
 pub returns : goal.returns
 returns c =
-    let same : c.as_slice.result.now ≡ c.self.inside.tickets.items = c.as_slice.ensures.value in
+    let same : c.as_slice.result.now ≡ c.self.inside.tickets.items = c.as_slice.ensures in
     let rises : Rises job_before c.as_slice.result.now = subst (Rises job_before) (sym same) c.self.invariant.rising in
     let order : IsInOrder job_before c.as_slice.result.now = IsInOrder-Rises job_before job_before_order c.as_slice.result.now rises in
     let k : Ticket = record { job = c.args.job; pool = 0; urgent = false; hint = None; start = 0; created = 0 } in

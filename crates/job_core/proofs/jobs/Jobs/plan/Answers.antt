@@ -21,12 +21,12 @@ found c =
     let ops : c.as_slice.result.now ≡ w.program.ops = c.as_slice.ensures ∙ ap (λ s. s.work.program.ops) c.self.view_is in
     record {
       made = c.requires.own;
-      before = subst (λ s. Rising s.work.jobs) c.self.view_is c.as_slice-before.ensures.rising;
+      before = subst (λ s. Rising s.work.jobs) c.self.view_is c.all-before.ensures.rising;
       tickets = subst (λ s. Ticketed (bare s.work)) c.self.view_is c.self.invariant.ticketed;
       few = subst (λ s. s.work.next ≤ 2 ^ 62) c.self.view_is c.self.invariant.next;
       jobs = c.in_ok-live.ensures;
-      rising = c.as_slice-jobs.ensures.rising;
-      one_each = c.as_slice-jobs.ensures.one_each;
+      rising = c.all-jobs.ensures.rising;
+      one_each = c.all-jobs.ensures.one_each;
       rises = c.requires.wants.rising;
       declared = declared_in (length w.program.ops) c.args.wants.now c.requires.wants.declared;
       drops_is = c.in_ok-drops.ensures.drops;

@@ -1,4 +1,4 @@
-use Rattle.std.proofs.Common.{rules, of_calls, ℕ, Bool, sym, subst, ap, ◌∙◌}
+use Rattle.std.proofs.Common.{rules, of_calls, ℕ, Bool, sym, subst, ap, ◌∙◌, arith}
 use Rattle.std.proofs.lemmas.Fn.{always_returns_same}
 use Rattle.std.specs.List.Sorted.{IsPartitionedBy}
 use Rattle.fair_pool.specs.Order.{leading}
@@ -13,10 +13,10 @@ pub returns-clause-rank : goal.returns-clause-rank
 returns-clause-rank c =
     let js = c.self.inside.numbered.jobs in
     let test : ℕ → Bool = λ n. is_found_before c.args.op c.args.key.now (job_numbered js n) in
-    let same = c.as_slice.ensures.value ∙ c.self.invariant.in_keys in
+    let same = c.self.invariant.in_keys in
     let point = c.partition_point.ensures.partitioned test (always_returns_same _ _ _ (λ a r f k. search (rules, of_calls)))
     (subst (IsPartitionedBy test) (sym same) (keys_parted c.args.op c.args.key.now js c.self.invariant.live.rising)) in
-    leading_found test c.as_slice.result.now c.partition_point.result c.partition_point.ensures.bound point
+    leading_found test c.self.inside.by_key.items c.partition_point.result (let b = c.partition_point.ensures.bound in omega (arith, c.self.inside.by_key.ok.0)) point
     ∙ ap (leading test) same ∙ keys_leading c.args.op c.args.key.now js c.self.invariant.live.rising
     ∙ ap (λ l. key_rank c.args.op c.args.key.now l.jobs) c.self.view_is
 
