@@ -1,0 +1,16 @@
+pub mod BareParts
+pub mod OwnAlone
+pub mod SameTrees
+pub mod Trees
+pub mod Drafted
+pub mod PlanAnswers
+pub mod Stepping
+pub mod Opened
+pub mod StoredRows
+pub mod Ranges
+pub mod Installed
+pub mod Exchanged
+pub mod Evaluating
+pub mod WantedCounts
+pub mod Tested
+pub mod FirstStates

@@ -1,0 +1,5 @@
+pub mod State
+pub mod Evaluated
+pub mod Answers
+pub mod Plans
+pub mod inside

@@ -1,0 +1,5 @@
+pub mod Bare
+pub mod Drafts
+pub mod Keeping
+pub mod Planning
+pub mod Opening
