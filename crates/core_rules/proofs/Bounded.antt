@@ -293,7 +293,8 @@ found_openable d k r h e = row_openable d.next (entries d.rows) k r h.rows (sym 
 pub durable_from : (d : Durable) → IsOpenable d → IsDurable d
 durable_from d h k r e = (found_openable d k r h e).below
 
-latest_within : (t next : ℕ) (es : List (RowKey × Row)) → t ≤ 2 ^ 60 → AllByRecursion (IsRowOpenable next) es → latest t es ≤ 2 ^ 60
+-- rows that may be opened with finished by 2^60, so the last one did
+pub latest_within : (t next : ℕ) (es : List (RowKey × Row)) → t ≤ 2 ^ 60 → AllByRecursion (IsRowOpenable next) es → latest t es ≤ 2 ^ 60
 latest_within t next [] l h = l
 latest_within t next (e ∷ es) l h = let f = h.0.finished in latest_within (max t e.1.finished) next es (omega (arith, l, f)) h.1
 

@@ -13,7 +13,6 @@ use Rattle.value_core.specs.declared.state.State.{State}
 use Rattle.value_core.specs.declared.value.Value.{Value}
 use Rattle.term_core.specs.Evaluation.{value_or_unit}
 use Rattle.term_core.specs.World.{World, entry_of}
-use Rattle.term_core.specs.declared.program.NodeDecl.{NodeDecl}
 use Rattle.term_core.specs.declared.program.Program.{Program}
 use Rattle.core_rules.specs.Replies.{changed_from}
 use Rattle.term_core.specs.Fresh.{fresh}
@@ -22,23 +21,12 @@ use Rattle.incr_eval.specs.Plans.{CoversChanges, IsPlanOf, LiveView, MatchesFres
 use Rattle.incr_eval.specs.Visits.{states}
 use Rattle.incr_eval.specs.Plans as plans
 use Rattle.incr_eval.specs.KnownChanges.{is_named}
-use Rattle.incr_eval.specs.Traces.{again_from, traces}
+use Rattle.incr_eval.proofs.AllNodes.{each_node}
+use Rattle.incr_eval.specs.Traces.{traces}
 use Rattle.incr_eval.specs.declared.changes.Changes.{Changes}
 use Rattle.incr_eval.specs.declared.visit.Visit.{Visit}
 use Rattle.current_cli.specs.inside.Cores.{empty_world, states_over}
 use Rattle.current_cli.specs.inside.Evaluated.{IsEvaluated, WasEvaluated}
-
--- ---- the number of trees
-
-again_length : (p : Program) (inputs : List Value) (world : World) (at : ℕ) (earlier : List State) (ds : List NodeDecl) (olds : List Visit)
-    → length (again_from p inputs world at earlier ds olds).traces ≡ length ds
-again_length p inputs world at earlier [] olds = refl
-again_length p inputs world at earlier (d ∷ ds) olds = ap suc (again_length p inputs world (at + 1) _ ds _)
-
--- there is a tree for each node
-pub each_node : (p : Program) (inputs : List Value) (world : World) → length (traces p inputs world) ≡ length p.nodes
-unfolding traces
-each_node p inputs world = again_length p inputs world 0 [] p.nodes []
 
 -- ---- changed nodes
 

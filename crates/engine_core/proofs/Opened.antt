@@ -1,11 +1,9 @@
 -- An opening, put together of the opened parts, their evaluation and the settled jobs.
 use Rattle.std.proofs.Common.{◌≡◌, ◌⊎◌, inl, inr, Err, ℕ, suc, ◌^◌, max, min, ◌+◌, ◌<◌, ◌≤◌, true, false, ◌||◌, List, [], ◌∷◌, length, map, Option, Some, refl, ap, sym, ◌∙◌, subst, arith}
 use Rattle.std.proofs.lemmas.Bool.{and_parts}
-use Rattle.std.specs.List.{AllByRecursion, list_all, list_any}
+use Rattle.std.specs.List.{AllByRecursion, list_all}
 use Rattle.std.specs.FinMap.{entries}
 use Rattle.std.specs.Prelude.{if◌then◌else◌}
-use Rattle.std.specs.Str.{bytes_eq}
-use Rattle.op_keys.specs.Names.{index_named}
 use Rattle.op_keys.specs.declared.declarations.ClientDecl.{ClientDecl}
 use Rattle.op_keys.specs.declared.declarations.PoolDecl.{PoolDecl}
 use Rattle.op_keys.specs.declared.declarations.WorkerDecl.{WorkerDecl}
@@ -28,7 +26,7 @@ use Rattle.value_core.specs.declared.state.Triple.{Triple}
 use Rattle.core_rules.specs.Entries.{fresh_of, states as states_in, wants}
 use Rattle.term_core.specs.Fresh.{fresh}
 use Rattle.core_rules.specs.Laws.{Ticketed, WithinCapacity}
-use Rattle.core_rules.specs.Openings.{IsOpenable, IsRowOpenable, latest, opening_reply, start}
+use Rattle.core_rules.specs.Openings.{IsOpenable, IsRowOpenable, opening_reply, start}
 use Rattle.core_rules.specs.declared.events.Refusal.{Refusal}
 use Rattle.core_rules.specs.declared.events.Refusal.TheVariants as refusal
 use Rattle.job_core.specs.Answers.{IsUsed}
@@ -58,7 +56,10 @@ use Rattle.engine_core.specs.Evaluated.{trees_of}
 use Rattle.engine_core.specs.inside.Keeping.{AreKept}
 use Rattle.engine_core.specs.declared.engine.opening.FirstReply.{FirstReply}
 use Rattle.engine_core.proofs.Drafted.{agree_self}
-use Rattle.engine_core.proofs.Trees.{length_trees, states_of, trees_agree, wants_of}
+use Rattle.incr_eval.proofs.AllNodes.{each_node}
+use Rattle.job_core.proofs.Served.{pool_found}
+use Rattle.engine_core.proofs.SameTrees.{same_trees}
+use Rattle.engine_core.proofs.Trees.{states_of, wants_of}
 use Rattle.engine_core.specs.Answers.{IsOpening, IsUnopened}
 use Rattle.engine_core.specs.inside.Opening.{AreOpened, CanSettleFirst, IsFirst, IsFirstReply, IsFirstSettled, IsFirstUnsettled, bare_of, first_done, state_of_parts}
 use Rattle.engine_core.specs.declared.stored.OpenedParts.{OpenedParts}
@@ -79,13 +80,6 @@ ticks_opened p q durable threshold reading o before after e h t =
     t ∙ (λ i. before + (fresh_opened p durable threshold reading o h i).ticks) ∙ (λ i. before + (fresh_of (opened (e i) durable threshold reading)).ticks)
 
 -- ---- pools of a sound program
-
-pool_found : (at : ℕ) (ds : List PoolDecl) (n : List ℕ) → list_any (λ (d : PoolDecl). bytes_eq d.name n) ds ≡ true → index_named at (map (λ (d : PoolDecl). d.name) ds) n < at + length ds
-pool_found at [] n e = let z : ⊥ = cc in absurd z
-pool_found at (d ∷ ds) n e = elim (bytes_eq d.name n) as (λ b. (b || list_any (λ (d : PoolDecl). bytes_eq d.name n) ds) ≡ true → (if b then at else index_named (at + 1) (map (λ (d : PoolDecl). d.name) ds) n) < at + suc (length ds)) [
-  | true ↦ λ k. omega arith
-  | false ↦ λ k. let h = pool_found (at + 1) ds n k in omega arith
-] e
 
 pool_there : (p : Program) (n : List ℕ) → is_pool p n ≡ true → pool_number p.pools n < length p.pools
 pool_there p n e = let l = pool_found 0 p.pools n e in omega arith
@@ -121,10 +115,6 @@ layout_sound p h = record {
 
 -- ---- the parts before they are settled
 
-latest_within : (t next : ℕ) (es : List (RowKey × Row)) → t ≤ 2 ^ 60 → AllByRecursion (IsRowOpenable next) es → latest t es ≤ 2 ^ 60
-latest_within t next [] l h = l
-latest_within t next (e ∷ es) l h = let f = h.0.finished in latest_within (max t e.1.finished) next es (omega (arith, l, f)) h.1
-
 module _ (program : Program) (durable : Durable) (threshold : Option Level) (reading : ℕ) (o : OpenedParts) (is : AreOpened program durable threshold reading o) where
   pub moment_opened : IsOpenable durable → o.moment ≤ 2 ^ 60
   moment_opened h = subst (λ n. n ≤ 2 ^ 60) (sym is.moment) (latest_within (min reading (2 ^ 60)) durable.next (entries durable.rows) (omega arith) h.rows)
@@ -159,7 +149,7 @@ trees_opened program durable threshold reading s e =
     let o : CoreState = opened program durable threshold reading in
     let same = same_settled (wanted o) o s e in
     (λ i. traces (sym same.program i) (sym same.inputs i) (world o))
-    ∙ sym (trees_agree s.program s.inputs (world s) (world o) (agreement_lasts (world o) o s s.version (agree_self (world o) (wants o)) e))
+    ∙ sym (same_trees s.program s.inputs (world s) (world o) (agreement_lasts (world o) o s s.version (agree_self (world o) (wants o)) e))
 
 -- ---- the opening
 
@@ -192,7 +182,7 @@ module _ (program : Program) (durable : Durable) (threshold : Option Level) (rea
   wants_first = ap in_order (ap all_wants trees_first ∙ wants_of first)
 
   pub nodes_opened : length trees ≡ length program.nodes
-  nodes_opened = ap (λ (vs : List Visit). length vs) is.trees ∙ length_trees program o.inputs.items (world (bare_of o))
+  nodes_opened = ap (λ (vs : List Visit). length vs) is.trees ∙ each_node program o.inputs.items (world (bare_of o))
 
   pub can_settle_first : CanSettleFirst trees o
   can_settle_first =

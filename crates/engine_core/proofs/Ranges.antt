@@ -8,11 +8,7 @@ use Rattle.op_keys.specs.declared.declarations.OpDecl.{OpDecl}
 use Rattle.sched_rows.specs.Validity.{IsInRange}
 use Rattle.term_core.specs.Limits.{IsExpiryWithin, IsOpWithin, IsWithinLimits}
 use Rattle.term_core.specs.declared.program.Program.{Program}
-
-pub all_at : {A : Type 0} (P : A → Type 0) (xs : List A) (i : ℕ) (x : A) → AllByRecursion P xs → slice_get xs i ≡ Some x → P x
-all_at P [] i x a e = let z : ⊥ = cc in absurd z
-all_at P (y ∷ ys) zero x a e = let is : y ≡ x = cc in subst P is a.0
-all_at P (y ∷ ys) (suc i) x a e = all_at P ys i x a.1 e
+use Rattle.job_core.proofs.Walks.{all_get}
 
 expiry_range : (e : Expiry) → IsExpiryWithin e → IsInRange e
 expiry_range Never h = tt
@@ -21,4 +17,4 @@ expiry_range (Daily minute offset) h = (h.0, h.1.west, h.1.east)
 expiry_range (Monthly day minute offset) h = (h.0, h.1, h.2, h.3.west, h.3.east)
 
 pub op_range : (p : Program) (i : ℕ) (d : OpDecl) → IsWithinLimits p → slice_get p.ops i ≡ Some d → IsInRange d.expiry
-op_range p i d h e = expiry_range d.expiry (all_at IsOpWithin p.ops i d h.ops e).expiry
+op_range p i d h e = expiry_range d.expiry (all_get IsOpWithin p.ops i d h.ops e).expiry

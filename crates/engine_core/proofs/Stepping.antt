@@ -42,7 +42,8 @@ use Rattle.engine_core.specs.inside.Drafts.{IsDraftOf}
 use Rattle.engine_core.specs.inside.Planning.{IsEvaluated, IsSettled, change_of as step_change, planned_of, unsettled}
 use Rattle.engine_core.proofs.Drafted.{agree_self, can_settle, input_there, wants_planned}
 use Rattle.engine_core.proofs.OwnAlone.{marks_alone, work_alone}
-use Rattle.engine_core.proofs.Trees.{changed_alike, states_of, trees_agree}
+use Rattle.engine_core.proofs.SameTrees.{same_trees}
+use Rattle.engine_core.proofs.Trees.{changed_alike, states_of}
 
 -- ---- the trees of an accepted step
 
@@ -60,7 +61,7 @@ trees_last s e s' r h =
     (λ i. traces (sym program i) t.inputs (world t))
     ∙ (λ i. traces (own i).program (own i).inputs (world (own i)))
     ∙ (λ i. traces (sym same.program i) (sym same.inputs i) (world a.own.state))
-    ∙ sym (trees_agree after.program after.inputs (world after) (world a.own.state)
+    ∙ sym (same_trees after.program after.inputs (world after) (world a.own.state)
     (agreement_lasts (world a.own.state) a.own.state a.after (s.version + 1) (agree_self (world a.own.state) (wants a.own.state)) a.settled))
     ∙ sym (ap trees_of a.new)
 

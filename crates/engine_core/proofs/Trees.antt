@@ -1,5 +1,5 @@
 -- The trees of a state, and what they tell.
-use Rattle.std.proofs.Common.{◌≡◌, ℕ, suc, ◌+◌, true, cond, List, [], ◌∷◌, ◌++◌, length, refl, ap, sym, ◌∙◌, subst, add-one}
+use Rattle.std.proofs.Common.{◌≡◌, ℕ, suc, ◌+◌, true, cond, List, [], ◌∷◌, refl, ap, sym, ◌∙◌, subst, add-one}
 use Rattle.value_core.specs.Codes.{state_code}
 use Rattle.value_core.specs.Same.{same}
 use Rattle.value_core.specs.declared.state.State.{State}
@@ -7,21 +7,16 @@ use Rattle.value_core.specs.declared.value.Value.{Value}
 use Rattle.value_core.proofs.Basics.{same_test}
 use Rattle.value_core.proofs.Sames.{same_refl, same_true}
 use Rattle.term_core.specs.Fresh.{fresh}
-use Rattle.term_core.specs.Laws.{Agree}
 use Rattle.term_core.specs.World.{World}
-use Rattle.term_core.specs.declared.program.NodeDecl.{NodeDecl}
 use Rattle.term_core.specs.declared.program.Program.{Program}
 use Rattle.core_rules.specs.Core.{CoreState}
 use Rattle.core_rules.specs.Entries.{states as states_in, wants}
 use Rattle.core_rules.specs.Replies.{changed_from as changed_nodes}
 use Rattle.incr_eval.specs.Plans.{changed_from}
-use Rattle.term_core.specs.Evaluation.{context_of}
-use Rattle.incr_eval.specs.Again.{Again, again}
-use Rattle.incr_eval.specs.Traces.{again_from, first_trace, later_traces, traces}
-use Rattle.incr_eval.specs.Visits.{all_wants, state_of, states}
+use Rattle.incr_eval.specs.Traces.{traces}
+use Rattle.incr_eval.specs.Visits.{all_wants, states}
 use Rattle.incr_eval.specs.declared.visit.Visit.{Visit}
 use Rattle.engine_core.specs.Evaluated.{trees_of}
-use Rattle.engine_core.proofs.SameTrees.{same_trees}
 use Rattle.incr_eval.proofs.AllNodes.{traces_match}
 
 -- what the trees of all nodes tell
@@ -31,22 +26,6 @@ pub record TreesTell (program : Program) (inputs : List Value) (world : World) :
 
 pub trees_tell : (program : Program) (inputs : List Value) (world : World) → TreesTell program inputs world
 trees_tell program inputs world = let t = traces_match program inputs world in record { states = t.states; wants = t.wants }
-
--- worlds that agree on what is wanted have the same trees
-pub trees_agree : (program : Program) (inputs : List Value) (w v : World) → Agree w v (fresh program inputs w).wants → traces program inputs w ≡ traces program inputs v
-trees_agree = same_trees
-
--- there is a tree for each node
-length_again : (program : Program) (inputs : List Value) (world : World) (ds : List NodeDecl) (at : ℕ) (earlier : List State) (olds : List Visit) →
-    length (again_from program inputs world at earlier ds olds).traces ≡ length ds
-length_again program inputs world [] at earlier olds = refl
-length_again program inputs world (d ∷ ds) at earlier olds =
-    let r : Again = again (context_of program at inputs earlier world) d.term (first_trace olds) [] in
-    ap suc (length_again program inputs world ds (at + 1) (earlier ++ state_of r.visit ∷ []) (later_traces olds))
-
-pub length_trees : (program : Program) (inputs : List Value) (world : World) → length (traces program inputs world) ≡ length program.nodes
-unfolding traces
-length_trees program inputs world = length_again program inputs world program.nodes 0 [] []
 
 -- the nodes whose states differ, in either order of comparison
 same_both : (a b : State) → same state_code b a ≡ same state_code a b

@@ -68,7 +68,7 @@ pub bounds_through_steps : (s : CoreState) (e : Event) (s' : CoreState) (r : Don
 bounds_through_steps s e s' r h w b =
     let a = accepts s e s' r h in
     let is = step_program s e s' r h in
-    let proper = proper_through_steps s e s' r h w b.proper in
+    let proper = proper_through_steps s e s' r h b.jobs w b.proper in
     let wanted_now = wants_within s.program s' is b.sound proper in
     let same : wanted s' ≡ wanted a.own.state = ap wanted a.new ∙ wanted_renumbered a.after (s.version + 1) ∙ wanted_settled a.own.state a.after a.settled in
     let jobs = of_jobs_through_steps (IsTripleWithin s.program) s e s' r h (subst (AllByRecursion (IsTripleWithin s.program)) same wanted_now) b.jobs in

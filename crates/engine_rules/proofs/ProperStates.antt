@@ -1,9 +1,9 @@
 -- Values and texts stay within the bounds.
-use Rattle.std.proofs.Common.{◌≡◌, inl, inr, ℕ, zero, suc, ◌≤◌, ◌-◌, true, false, List, [], ◌∷◌, ◌++◌, map, length, take, Option, Some, None, is_some, Result, Ok, Err, refl, ap, sym, ◌∙◌, subst, arith}
+use Rattle.std.proofs.Common.{◌≡◌, inl, inr, ℕ, zero, suc, ◌≤◌, ◌-◌, Bool, true, false, List, [], ◌∷◌, ◌++◌, map, length, take, Option, Some, None, is_some, Result, Ok, Err, refl, ap, sym, ◌∙◌, subst, arith}
 use Rattle.std.proofs.lemmas.Bool.{cond_both, ltb-false}
 use Rattle.std.proofs.lemmas.Fmt.{length-decimal-le_succ}
 use Rattle.std.proofs.lemmas.List.{length-append}
-use Rattle.std.specs.Prelude.{◌==◌, ◌&&◌, ◌||◌, codes, if◌then◌else◌, nat_lt, slice_get, slice_set}
+use Rattle.std.specs.Prelude.{◌==◌, ◌&&◌, ◌||◌, codes, if◌then◌else◌, is_ok, nat_lt, slice_get, slice_set, IfSome}
 use Rattle.std.specs.Fmt.{decimal}
 use Rattle.std.specs.FinMap.{get, get-insert, get-remove}
 use Rattle.std.specs.Io.BufRead.{ends_with_byte, strip_last}
@@ -39,7 +39,7 @@ use Rattle.core_rules.specs.declared.events.What.TheVariants as what
 use Rattle.core_rules.specs.declared.jobs.Job.{Job}
 use Rattle.core_rules.specs.declared.jobs.Mark.{Mark}
 use Rattle.core_rules.specs.declared.jobs.Mark.TheVariants.{Unmarked, Automatic, User}
-use Rattle.core_rules.specs.Changes.{cancelled_row, input_index, takes}
+use Rattle.core_rules.specs.Changes.{cancelled_row, input_index, row_by, takes}
 use Rattle.core_rules.specs.Core.{CoreState, expiry_of, is_latched, is_output, job_numbered, op_of}
 use Rattle.core_rules.specs.Entries.{entry_by, entry_in, job_of, known, outcome, row_of, states, world}
 use Rattle.core_rules.specs.Exits.{code_outcome, exit_outcome, text_outcome}
@@ -55,7 +55,8 @@ use Rattle.core_rules.specs.declared.own.RowChange.TheVariants as row
 use Rattle.engine_rules.specs.declared.tests.Tested.TheVariants as tested
 use Rattle.engine_rules.specs.Edits.{cancelled_rows, edit_of, edited, inputs_made, left_row, left_rows, pick_job, taken_rows}
 use Rattle.core_rules.specs.Own.{rows_made}
-use Rattle.engine_rules.specs.Proper.{AreRowsShort, IsByteExit, IsLight, IsProperCore, IsProperDurable, IsProperWhat}
+use Rattle.engine_rules.specs.Proper.{AreRowsShort, IsRowShort, IsByteExit, IsLight, IsProperCore, IsProperDurable, IsProperWhat}
+use Rattle.engine_rules.specs.Reached.{IsTripleWithin}
 use Rattle.engine_rules.specs.Tests.{input_test, test_of}
 use Rattle.engine_rules.proofs.Edited.{change_made, own_untouched, unless_passes}
 use Rattle.engine_rules.proofs.LiteralInputs.{declared_proper}
@@ -75,7 +76,7 @@ short_by s d None (Some r) h = cond_both (valid (expiry_of d) s.now r || is_latc
 short_by s d None None h = tt
 
 entry_short : (s : CoreState) (t : Triple) → AreRowsShort s.rows → IsShortEntry (entry_in s t)
-entry_short s t h = short_by s (op_of s t.op) (job_of s.jobs t) (row_of s t) (λ r e. let f = row_found s t r (op_of s t.op) refl e in h (row_key f.0.name t.key) r f.2)
+entry_short s t h = short_by s (op_of s t.op) (job_of s.jobs t) (row_of s t) (λ r e. let f = row_found s t r (op_of s t.op) refl e in (h (row_key f.0.name t.key) r f.2).result)
 
 all_short : (s : CoreState) (ts : List Triple) → AreRowsShort s.rows → AllByRecursion (λ (e : Triple × Entry). IsShortEntry e.1) (map (λ t. (t, entry_in s t)) ts)
 all_short s [] h = tt
@@ -155,15 +156,36 @@ text_of_short d (Err m) h = h
 
 -- ---- rows
 
--- a row that is put has a short result
+-- the key and the value of a triple have at most 65,536 bytes
+record IsTripleShort (t : Triple) : Type 0 where
+  key : length t.key ≤ 65536
+  value : length t.value ≤ 65536
+
+-- a job with such a triple, if there is one
+abbrev IsJobShort : Option Job → Type 0
+IsJobShort o = IfSome o (λ (j : Job). IsTripleShort j.triple)
+
+job_short : (p : Program) (js : List Job) (n : ℕ) (o : Option Job) → AllByRecursion (λ (j : Job). IsTripleWithin p j.triple) js → job_numbered js n ≡ o → IsJobShort o
+job_short p js n None h e = tt
+job_short p [] n (Some j) h e = let z : ⊥ = cc in absurd z
+job_short p (i ∷ js) n (Some j) h e = elim (cond_is {A = Option Job} (i.number == n) (Some i) (job_numbered js n) (Some j) e) [
+  | inl f ↦ let same : i ≡ j = (let g = f.1 in cc) in subst (λ (x : Job). IsTripleShort x.triple) same (record { key = h.0.wantable.key; value = h.0.wantable.value })
+  | inr f ↦ job_short p js n (Some j) h.1 f.1
+]
+
+-- a row that is put is short
 abbrev PutShort : RowChange → Type 0
-PutShort (row.Put r) = length r.result ≤ 65536
+PutShort (row.Put r) = IsRowShort r
 PutShort c = Unit {0}
+
+-- a row of a job is as short as its result
+by_short : (s : CoreState) (j : Job) (fine : Bool) (result : List ℕ) → IsTripleShort j.triple → length result ≤ 65536 → PutShort (row.Put (row_by s j fine result))
+by_short s j fine result t h = record { key = t.key; value = t.value; result = h }
 
 rows_short : (c : RowChange) (rows : Rows) → PutShort c → AreRowsShort rows → AreRowsShort (rows_made c rows)
 rows_short row.None rows p h = h
 rows_short (row.Put q) rows p h = λ k r e. elim (cond_is {A = Option Row} (eq_by_cmp row_key_cmp k (key_of q)) (Some q) (get rows k) (Some r) (sym (get-insert row_key_cmp_total rows (key_of q) q k) ∙ e)) [
-  | inl i ↦ let same : q ≡ r = (let f = i.1 in cc) in subst (λ (x : Row). length x.result ≤ 65536) same p
+  | inl i ↦ let same : q ≡ r = (let f = i.1 in cc) in subst IsRowShort same p
   | inr i ↦ h k r i.1
 ]
 rows_short (row.Void op key) rows p h = λ k r e. elim (cond_is {A = Option Row} (eq_by_cmp row_key_cmp k (row_key op key)) None (get rows k) (Some r) (sym (get-remove row_key_cmp_total rows (row_key op key) k) ∙ e)) [
@@ -172,47 +194,50 @@ rows_short (row.Void op key) rows p h = λ k r e. elim (cond_is {A = Option Row}
 ]
 rows_short (row.Mark op key) rows p h = marked_short (row_key op key) (get rows (row_key op key)) refl
   where
+    marked_row : (q : Row) → IsRowShort q → IsRowShort (marked q)
+    marked_row q i = record { key = i.key; value = i.value; result = i.result }
+
     marked_short : (at : RowKey) (o : Option Row) → get rows at ≡ o → AreRowsShort (mark_found at o rows)
     marked_short at None is = h
     marked_short at (Some q) is = λ k r e. elim (cond_is {A = Option Row} (eq_by_cmp row_key_cmp k at) (Some (marked q)) (get rows k) (Some r) (sym (get-insert row_key_cmp_total rows at (marked q) k) ∙ e)) [
-      | inl i ↦ let same : marked q ≡ r = (let f = i.1 in cc) in subst (λ (x : Row). length x.result ≤ 65536) same (h at q is)
+      | inl i ↦ let same : marked q ≡ r = (let f = i.1 in cc) in subst IsRowShort same (marked_row q (h at q is))
       | inr i ↦ h k r i.1
     ]
 
-cancelled_short : (s : CoreState) (o : Option Job) → PutShort (cancelled_rows s o)
-cancelled_short s None = tt
-cancelled_short s (Some j) = cond_both (is_some j.worker) row.None (row.Put (cancelled_row s j)) PutShort (λ _. tt) (λ _. omega arith)
+cancelled_short : (s : CoreState) (o : Option Job) → IsJobShort o → PutShort (cancelled_rows s o)
+cancelled_short s None t = tt
+cancelled_short s (Some j) t = cond_both (is_some j.worker) row.None (row.Put (cancelled_row s j)) PutShort (λ _. tt) (λ _. by_short s j false (codes "cancelled") t (omega arith))
 
 taken_short : (s : CoreState) (o : Option Job) → PutShort (taken_rows s o)
 taken_short s None = tt
 taken_short s (Some j) = cond_both (is_output (op_of s j.triple.op)) _ _ PutShort (λ _. tt) (λ _. tt)
 
-left_short : (s : CoreState) (j : Job) (x : Exit) (m : Mark) → IsByteExit x → PutShort (left_row m s j x)
-left_short s j x Automatic h = tt
-left_short s j x User h = omega arith
-left_short s j x Unmarked h = text_of_short (op_of s j.triple.op) (exit_outcome x) (exit_short x h)
+left_short : (s : CoreState) (j : Job) (x : Exit) (m : Mark) → IsTripleShort j.triple → IsByteExit x → PutShort (left_row m s j x)
+left_short s j x Automatic t h = tt
+left_short s j x User t h = by_short s j false (codes "cancelled") t (omega arith)
+left_short s j x Unmarked t h = let o : Result (List ℕ) (List ℕ) = exit_outcome x in by_short s j (is_ok o) (result_text (op_of s j.triple.op) o) t (text_of_short (op_of s j.triple.op) o (exit_short x h))
 
-ended_short : (s : CoreState) (o : Option Job) (x : Exit) → IsByteExit x → PutShort (left_rows s o x)
-ended_short s None x h = tt
-ended_short s (Some j) x h = left_short s j x j.mark h
+ended_short : (s : CoreState) (o : Option Job) (x : Exit) → IsJobShort o → IsByteExit x → PutShort (left_rows s o x)
+ended_short s None x t h = tt
+ended_short s (Some j) x t h = left_short s j x j.mark t h
 
-put_short : (s : CoreState) (w : What) → IsProperWhat w → PutShort (edit_of s w).row
-put_short s (what.SetInput name v) h = tt
-put_short s what.Tick h = tt
-put_short s (what.SetLevel threshold) h = tt
-put_short s (what.Confirm n) h = tt
-put_short s (what.Cancel n) h = cancelled_short s (job_numbered s.jobs n)
-put_short s (what.Rebuild op key) h = tt
-put_short s (what.Pause k) h = tt
-put_short s (what.Resume k) h = tt
-put_short s (what.Rate pool client rate) h = tt
-put_short s (what.Take k) h = taken_short s (pick_job s k)
-put_short s (what.Finish n x) h = ended_short s (job_numbered s.jobs n) x h
+put_short : (p : Program) (s : CoreState) (w : What) → AllByRecursion (λ (j : Job). IsTripleWithin p j.triple) s.jobs → IsProperWhat w → PutShort (edit_of s w).row
+put_short p s (what.SetInput name v) b h = tt
+put_short p s what.Tick b h = tt
+put_short p s (what.SetLevel threshold) b h = tt
+put_short p s (what.Confirm n) b h = tt
+put_short p s (what.Cancel n) b h = cancelled_short s (job_numbered s.jobs n) (job_short p s.jobs n (job_numbered s.jobs n) b refl)
+put_short p s (what.Rebuild op key) b h = tt
+put_short p s (what.Pause k) b h = tt
+put_short p s (what.Resume k) b h = tt
+put_short p s (what.Rate pool client rate) b h = tt
+put_short p s (what.Take k) b h = taken_short s (pick_job s k)
+put_short p s (what.Finish n x) b h = ended_short s (job_numbered s.jobs n) x (job_short p s.jobs n (job_numbered s.jobs n) b refl) h
 
 -- ---- steps and openings
 
-pub proper_through_steps : (s : CoreState) (e : Event) (s' : CoreState) (r : Done) → step s e ≡ Accepted s' r → IsProperWhat e.what → IsProperCore s → IsProperCore s'
-proper_through_steps s e s' r h p k =
+pub proper_through_steps : (s : CoreState) (e : Event) (s' : CoreState) (r : Done) → step s e ≡ Accepted s' r → AllByRecursion (λ (j : Job). IsTripleWithin s.program j.triple) s.jobs → IsProperWhat e.what → IsProperCore s → IsProperCore s'
+proper_through_steps s e s' r h b p k =
     let a = accepts s e s' r h in
     let u : CoreState = at_time s e.at in
     let d = edit_of u e.what in
@@ -224,7 +249,7 @@ proper_through_steps s e s' r h p k =
     let rows : s'.rows ≡ rows_made d.row s.rows = ap (λ z. z.rows) a.new ∙ same.rows ∙ sym (ap (λ z. z.rows) own) in
     record {
       inputs = subst (λ (q : Program). AreProperInputs q.inputs s'.inputs) (sym program) (subst (AreProperInputs s.program.inputs) (sym inputs) (inputs_proper u e.what made.0 p k.inputs));
-      rows = subst AreRowsShort (sym rows) (rows_short d.row s.rows (put_short u e.what p) k.rows);
+      rows = subst AreRowsShort (sym rows) (rows_short d.row s.rows (put_short s.program u e.what b p) k.rows);
     }
 
 stored_light : (es : List (List ℕ × Value)) (name : List ℕ) (v : Value) → AllByRecursion (λ (e : List ℕ × Value). IsLight e.1) es → stored_at es name ≡ Some v → IsLight v

@@ -8,8 +8,6 @@ ghost use Rattle.fair_pool.specs.Pools.{opened_for, submitted, with_ready, witho
 ghost use Rattle.fair_pool.specs.Sound.{IsLayoutSound, IsOpServed, is_rate};
 
 mod picking;
-#[cfg(test)]
-mod tests;
 
 use crate::hints::Hints;
 use crate::layout::Declared;

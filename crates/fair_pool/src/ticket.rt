@@ -48,7 +48,7 @@ fn copy_of_hint(alloc: Global, hint: &Option<Text>) -> Result<Option<Text>, NoMe
 }
 
 impl Ticket {
-    /// A ticket that stands for none.
+    /// A ticket of no job, where one was taken.
     pub(crate) fn blank() -> Ticket {
         Ticket {
             job: 0,

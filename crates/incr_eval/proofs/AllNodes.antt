@@ -1,5 +1,5 @@
 -- The trees of all nodes: over the old trees they come to those of the new world, and they tell what fresh evaluation gives.
-use Rattle.std.proofs.Common.{◌≡◌, ℕ, ◌+◌, List, [], ◌∷◌, ◌++◌, map, sum, Some, None, refl, ap, ◌∙◌, subst}
+use Rattle.std.proofs.Common.{◌≡◌, ℕ, suc, ◌+◌, length, List, [], ◌∷◌, ◌++◌, map, sum, Some, None, refl, ap, ◌∙◌, subst}
 use Rattle.std.specs.List.{flat_map}
 use Rattle.value_core.specs.declared.value.Value.{Value}
 use Rattle.value_core.specs.declared.state.State.{State}
@@ -71,3 +71,15 @@ unfolding fresh traces all_dirty
 traces_match program inputs world =
     let t = all_tell program inputs world program.nodes 0 [] in
     record { states = t.states; wants = t.wants; visits = t.count ∙ t.ticks; ticks = t.ticks }
+
+-- ---- the number of trees
+
+again_length : (p : Program) (inputs : List Value) (world : World) (at : ℕ) (earlier : List State) (ds : List NodeDecl) (olds : List Visit)
+    → length (again_from p inputs world at earlier ds olds).traces ≡ length ds
+again_length p inputs world at earlier [] olds = refl
+again_length p inputs world at earlier (d ∷ ds) olds = ap suc (again_length p inputs world (at + 1) _ ds _)
+
+-- there is a tree for each node
+pub each_node : (p : Program) (inputs : List Value) (world : World) → length (traces p inputs world) ≡ length p.nodes
+unfolding traces
+each_node p inputs world = again_length p inputs world 0 [] p.nodes []

@@ -14,7 +14,8 @@ use Rattle.term_core.specs.declared.program.Program.{Program}
 use Rattle.fair_pool.specs.Sound.{IsOpServed}
 use Rattle.core_rules.specs.Core.{layout_of}
 
-pool_found : (at : ℕ) (ds : List PoolDecl) (n : List ℕ) → list_any (λ (d : PoolDecl). bytes_eq d.name n) ds ≡ true → index_named at (map (λ (d : PoolDecl). d.name) ds) n < at + length ds
+-- a pool that is declared is found by its name
+pub pool_found : (at : ℕ) (ds : List PoolDecl) (n : List ℕ) → list_any (λ (d : PoolDecl). bytes_eq d.name n) ds ≡ true → index_named at (map (λ (d : PoolDecl). d.name) ds) n < at + length ds
 pool_found at [] n e = absurd (false≢true e)
 pool_found at (d ∷ ds) n e = elim (bytes_eq d.name n) as (λ b. (b || list_any (λ (d : PoolDecl). bytes_eq d.name n) ds) ≡ true → (if b then at else index_named (at + 1) (map (λ (d : PoolDecl). d.name) ds) n) < at + suc (length ds)) [
   | true ↦ λ k. omega arith

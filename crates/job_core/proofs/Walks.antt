@@ -232,7 +232,8 @@ later_not_least u t us a l h =
 other_least : (u t : Triple) (us : List Triple) → on_key t.op t.key u ≡ false → is_least (u ∷ us) t ≡ is_least us t
 other_least u t us h = ap (λ b. is_value (least_value (map (λ v. v.value) (cond b (u ∷ filter (on_key t.op t.key) us) (filter (on_key t.op t.key) us)))) t.value) h
 
-all_get : {X : Type 0} (P : X → Type 0) (xs : List X) (i : ℕ) (x : X) → AllByRecursion P xs → slice_get xs i ≡ Some x → P x
+-- what holds of each holds of the one at an index
+pub all_get : {X : Type 0} (P : X → Type 0) (xs : List X) (i : ℕ) (x : X) → AllByRecursion P xs → slice_get xs i ≡ Some x → P x
 all_get P [] i x a e = let z : ⊥ = cc in absurd z
 all_get P (y ∷ xs) zero x a e = let p : y ≡ x = cc in subst P p a.0
 all_get P (y ∷ xs) (suc i) x a e = all_get P xs i x a.1 e

@@ -1,4 +1,4 @@
-//! The launcher whose children can be told to stop, and the signaller that tells them.
+//! The launcher whose children can be asked to stop, and the signaller that asks them.
 ghost use Rattle.std.specs.Prelude.{◌≡◌, ◌≤◌, length, None, IfOk, Ok};
 ghost use Rattle.io_ends.specs.Causes.{Rose};
 ghost use Rattle.launch_core.specs.Launching.{HasWords, AddsRun, HasAtMost, output_read};
@@ -33,8 +33,8 @@ fn remove_input<R: Wait>(rt: &R, inputs: &ChildInputs, job: u64) -> Option<Child
     inputs.lock(rt).remove(&job)
 }
 
-/// Runs each order as a child process whose standard input stays open until the job is told to stop
-/// or the child has ended. It has no ghost record of its runs.
+/// Runs each order as a child process whose standard input stays open until the job is asked to
+/// stop or the child has ended. It has no ghost record of its runs.
 #[derive(Drop)]
 pub struct SignalledLauncher<'r, R: Processes<Started = SystemProcess> + Wait> {
     rt: &'r R,

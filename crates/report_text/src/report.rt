@@ -91,7 +91,7 @@ fn yes_or_no(is_so: bool) -> &'static str
     if is_so { "yes" } else { "no" }
 }
 
-/// The lines that tell what a program reads.
+/// The lines on what a program reads.
 #[tactic(auto, unfolding(crate::specs::Reports::report_text))]
 pub fn report_lines(
     alloc: Global,

@@ -7,14 +7,15 @@ use Rattle.incr_eval.specs.Visits.{states}
 use Rattle.incr_eval.specs.declared.visit.Visit.{Visit}
 use Rattle.engine_core.specs.State.{EngineState}
 use Rattle.engine_core.specs.inside.Keeping.{core_in}
-use Rattle.engine_core.proofs.Trees.{length_trees, states_of}
+use Rattle.incr_eval.proofs.AllNodes.{each_node}
+use Rattle.engine_core.proofs.Trees.{states_of}
 use Rattle.engine_core.proofs.engine.Engine.state_of.Goals as goal
 
 pub state_of-requires : goal.state_of-requires
 state_of-requires c =
     let s : CoreState = core_in c.self.inside in
     let many : length c.self.inside.evaluation ≡ length c.args.self.now.core.program.nodes =
-    ap (λ (vs : List Visit). length vs) c.self.invariant.trees ∙ length_trees s.program s.inputs (world s) ∙ ap (λ (e : EngineState). length e.core.program.nodes) c.self.view_is in
+    ap (λ (vs : List Visit). length vs) c.self.invariant.trees ∙ each_node s.program s.inputs (world s) ∙ ap (λ (e : EngineState). length e.core.program.nodes) c.self.view_is in
     subst (λ n. c.args.node < n) (sym many) c.requires
 
 pub returns : goal.returns
