@@ -18,15 +18,14 @@ use Rattle.core_rules.specs.Entries.{world}
 use Rattle.core_rules.specs.Openings.{Durable, opened}
 use Rattle.engine_rules.specs.Openings.{first_work}
 use Rattle.core_rules.specs.Parts.{Work, core_of}
-use Rattle.sched_rows.specs.RowKeys.{RowKey}
-use Rattle.sched_rows.specs.declared.row.Row.{Row}
 use Rattle.sched_rows.specs.Rows.{Kept}
 use Rattle.term_core.specs.Counts.{in_order}
 use Rattle.value_core.specs.declared.state.Triple.{Triple}
 use Rattle.core_rules.specs.Entries.{fresh_of, states as states_in, wants}
 use Rattle.term_core.specs.Fresh.{fresh}
 use Rattle.core_rules.specs.Laws.{Ticketed, WithinCapacity}
-use Rattle.core_rules.specs.Openings.{IsOpenable, IsRowOpenable, opening_reply, start}
+use Rattle.core_rules.specs.Openings.{IsOpenable, opening_reply, start}
+use Rattle.core_rules.proofs.Bounded.{latest_within}
 use Rattle.core_rules.specs.declared.events.Refusal.{Refusal}
 use Rattle.core_rules.specs.declared.events.Refusal.TheVariants as refusal
 use Rattle.job_core.specs.Answers.{IsUsed}
