@@ -1,9 +1,8 @@
 -- An opening, put together of the opened parts, their evaluation and the settled jobs.
-use Rattle.std.proofs.Common.{◌≡◌, ◌⊎◌, inl, inr, Err, ℕ, suc, ◌^◌, max, min, ◌+◌, ◌<◌, ◌≤◌, true, false, ◌||◌, List, [], ◌∷◌, length, map, Option, Some, refl, ap, sym, ◌∙◌, subst, arith}
+use Rattle.std.proofs.Common.{◌≡◌, ◌⊎◌, inl, inr, Err, ℕ, ◌^◌, min, ◌+◌, ◌<◌, ◌≤◌, true, List, [], ◌∷◌, length, Option, Some, refl, ap, sym, ◌∙◌, subst, arith}
 use Rattle.std.proofs.lemmas.Bool.{and_parts}
 use Rattle.std.specs.List.{AllByRecursion, list_all}
 use Rattle.std.specs.FinMap.{entries}
-use Rattle.std.specs.Prelude.{if◌then◌else◌}
 use Rattle.op_keys.specs.declared.declarations.ClientDecl.{ClientDecl}
 use Rattle.op_keys.specs.declared.declarations.PoolDecl.{PoolDecl}
 use Rattle.op_keys.specs.declared.declarations.WorkerDecl.{WorkerDecl}

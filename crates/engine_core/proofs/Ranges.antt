@@ -1,7 +1,6 @@
 -- The expiries of operations are in range.
-use Rattle.std.proofs.Common.{◌≡◌, ℕ, zero, suc, List, [], ◌∷◌, Some, subst, arith}
+use Rattle.std.proofs.Common.{◌≡◌, ℕ, Some, arith}
 use Rattle.std.specs.Prelude.{slice_get}
-use Rattle.std.specs.List.{AllByRecursion}
 use Rattle.op_keys.specs.declared.declarations.Expiry.{Expiry}
 use Rattle.op_keys.specs.declared.declarations.Expiry.TheVariants.{Never, After, Daily, Monthly}
 use Rattle.op_keys.specs.declared.declarations.OpDecl.{OpDecl}

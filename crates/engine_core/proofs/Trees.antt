@@ -15,7 +15,6 @@ use Rattle.core_rules.specs.Replies.{changed_from as changed_nodes}
 use Rattle.incr_eval.specs.Plans.{changed_from}
 use Rattle.incr_eval.specs.Traces.{traces}
 use Rattle.incr_eval.specs.Visits.{all_wants, states}
-use Rattle.incr_eval.specs.declared.visit.Visit.{Visit}
 use Rattle.engine_core.specs.Evaluated.{trees_of}
 use Rattle.incr_eval.proofs.AllNodes.{traces_match}
 
