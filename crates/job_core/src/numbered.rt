@@ -1,5 +1,5 @@
 //! Live jobs in order of their numbers.
-ghost use Rattle.std.specs.Prelude.{◌≡◌, ◌-◌, ◌<◌, ◌≤◌, [], ◌∷◌, ◌++◌, true, max, nat_lt, vec_len, IfOk, OnOk, OnErr, Some, None};
+ghost use Rattle.std.specs.Prelude.{◌≡◌, ◌-◌, ◌<◌, ◌≤◌, [], ◌∷◌, ◌++◌, true, max, nat_lt, vec_len, IfSome, IfOk, OnOk, OnErr, Some, None};
 ghost use Rattle.std.specs.Option.{option_copied};
 ghost use Rattle.std.specs.VecDeque.{deque_capacity};
 ghost use Rattle.fair_pool.specs.Order.{leading};
@@ -17,7 +17,7 @@ use value_core::NoMemory;
 /// Jobs in order of their numbers, at most one of an operation and key.
 #[derive(Drop)]
 pub(crate) struct Numbered {
-    /// In order of numbers, searched by halving.
+    /// In order of numbers, of which few are missing in between.
     jobs: VecDeque<Job>,
     /// For how many more jobs there is room.
     spare: usize,
@@ -66,8 +66,21 @@ impl Numbered {
         &self.jobs
     }
 
-    /// How many jobs have a smaller number.
-    fn rank(&self, number: u64) -> usize
+    /// The rank of the job of a number, if no number between it and the first job's is missing.
+    fn dense_rank(&self, number: u64) -> Option<usize>
+        ensures { IfSome result (λ at. at ≡ leading (λ j. nat_lt j.number number) self.now.jobs) }
+    {
+        let first = self.jobs.front()?.number;
+        let at = number.checked_sub(first)? as usize;
+        if self.jobs.get(at)?.number == number {
+            Some(at)
+        } else {
+            None
+        }
+    }
+
+    /// How many jobs have a smaller number, by halving.
+    fn halved_rank(&self, number: u64) -> usize
         ensures { result ≡ leading (λ j. nat_lt j.number number) self.now.jobs }
     {
         self.jobs.partition_point(
@@ -75,6 +88,16 @@ impl Numbered {
                 ensures { result ≡ nat_lt j.now.number number }
             { j.number < number },
         )
+    }
+
+    /// How many jobs have a smaller number.
+    fn rank(&self, number: u64) -> usize
+        ensures { result ≡ leading (λ j. nat_lt j.number number) self.now.jobs }
+    {
+        match self.dense_rank(number) {
+            Some(at) => at,
+            None => self.halved_rank(number),
+        }
     }
 
     /// The job of a number.

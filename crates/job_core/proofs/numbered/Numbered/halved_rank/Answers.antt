@@ -3,7 +3,7 @@ use Rattle.std.proofs.lemmas.Fn.{always_returns_same}
 use Rattle.fair_pool.specs.Order.{leading}
 use Rattle.fair_pool.proofs.Ordered.{leading_found}
 use Rattle.job_core.proofs.Places.{halved}
-use Rattle.job_core.proofs.numbered.Numbered.rank.Goals as goal
+use Rattle.job_core.proofs.numbered.Numbered.halved_rank.Goals as goal
 
 pub returns : goal.returns
 returns c =
