@@ -10,17 +10,19 @@ use Rattle.term_core.specs.declared.program.InputDecl.{InputDecl}
 use Rattle.term_core.specs.declared.program.Program.{Program}
 use Rattle.core_rules.specs.Changes.{Change, Tried, Makes, input_index, set_input, takes}
 use Rattle.core_rules.specs.Core.{CoreState}
+use Rattle.core_rules.specs.Entries.{states, wants}
 use Rattle.core_rules.specs.Openings.{opening_reply}
+use Rattle.core_rules.specs.declared.notes.Note.TheVariants as note
 use Rattle.core_rules.specs.declared.done.Done.{Done}
-use Rattle.core_rules.specs.Replies.{changed_from}
+use Rattle.core_rules.specs.Replies.{changed_from, new_conflicts}
 use Rattle.core_rules.specs.Settling.{settle}
 use Rattle.core_rules.specs.Steps.{Answer, Refused, Accepted, answer, reply_of, settled_answer, step}
 use Rattle.core_rules.specs.declared.events.Refusal.{Refusal}
 use Rattle.core_rules.specs.declared.events.Refusal.TheVariants as refusal
-use Rattle.report_text.specs.Lines.{version_text}
+use Rattle.report_text.specs.Lines.{reply_text, version_text}
 use Rattle.current_cli.specs.Transcripts.{setting}
 use Rattle.current_cli.specs.inside.Cores.{IsAnswer, IsChoice, LooksUpNothing, choose, chosen, next_text, plain_core, states_over, with_input}
-use Rattle.current_cli.proofs.QuietCores.{settled, states_are}
+use Rattle.current_cli.proofs.QuietCores.{no_conflicts, plain_text, settled, states_are}
 
 -- ---- refused by the input's declaration
 
@@ -38,14 +40,14 @@ refused_at s name v index (Some d) r e = refused_by s name v index r (takes d v)
 
 -- what is tried is a change to these values of the inputs
 abbrev IsChangeTo : Program → ℕ → List Value → Tried → Type 0
-IsChangeTo p version inputs tried = (c : Change) × (tried ≡ Makes c) × (c.state ≡ plain_core p version inputs)
+IsChangeTo p version inputs tried = (c : Change) × (tried ≡ Makes c) × (c.state ≡ plain_core p version inputs) × (c.note ≡ note.Plain)
 
 changed_by : (p : Program) (version : ℕ) (inputs : List Value) (name : List ℕ) (v : Value) (index j : ℕ) (b : Bool) (d : InputDecl) → takes d v ≡ b
     → (if b then Ok index else Err refusal.WrongKind) ≡ Ok j → IsChangeTo p version (slice_set inputs j v) (set_input (plain_core p version inputs) name v index (Some d))
 changed_by p version inputs name v index j false d is e = absurd cc
 changed_by p version inputs name v index j true d is e =
     let same : index ≡ j = cc in
-    subst (λ (i : ℕ). IsChangeTo p version (slice_set inputs i v) (set_input (plain_core p version inputs) name v index (Some d))) same (rw is (_, refl, refl))
+    subst (λ (i : ℕ). IsChangeTo p version (slice_set inputs i v) (set_input (plain_core p version inputs) name v index (Some d))) same (rw is (_, refl, refl, refl))
 
 changed_at : (p : Program) (version : ℕ) (inputs : List Value) (name : List ℕ) (v : Value) (index j : ℕ) (o : Option InputDecl) → choose v index o ≡ Ok j
     → IsChangeTo p version (slice_set inputs j v) (set_input (plain_core p version inputs) name v index o)
@@ -56,27 +58,29 @@ changed_at p version inputs name v index j (Some d) e = changed_by p version inp
 
 -- the answer is the next version, with these values of the inputs
 abbrev IsNext : Program → ℕ → List Value → List Value → Answer → Type 0
-IsNext p version inputs inputs' a = (r : Done) × (a ≡ Accepted (plain_core p (version + 1) inputs') r) × (next_text (plain_core p version inputs) inputs' ≡ version_text p r.version r.changed)
+IsNext p version inputs inputs' a = (r : Done) × (a ≡ Accepted (plain_core p (version + 1) inputs') r) × (next_text (plain_core p version inputs) inputs' ≡ reply_text p r None)
 
 next_by : (p : Program) (version : ℕ) (inputs inputs' : List Value) (c : Change) → LooksUpNothing p → (version == 2 ^ 64 - 1) ≡ false
-    → c.state ≡ plain_core p version inputs' → IsNext p version inputs inputs' (answer (plain_core p version inputs) (Makes c))
-next_by p version inputs inputs' c quiet unused state =
+    → c.state ≡ plain_core p version inputs' → c.note ≡ note.Plain → IsNext p version inputs inputs' (answer (plain_core p version inputs) (Makes c))
+next_by p version inputs inputs' c quiet unused state plain =
     let s : CoreState = plain_core p version inputs in
+    let none : new_conflicts (wants s) (wants c.state) ≡ [] = rw state (no_conflicts (wants s) (plain_core p version inputs') quiet) in
+    let shown : next_text s inputs' ≡ version_text p (version + 1) (changed_from 0 (states s) (states c.state)) = rw state (rw (states_are p version inputs quiet, states_are p version inputs' quiet) refl) in
     let settles : settle c.state ≡ Some c.state = rw state (settled p version inputs' quiet) in (
       reply_of s c c.state,
       ap (λ (b : Bool). if b then Refused refusal.NumbersUsed else settled_answer s c (settle c.state)) unused
           ∙ (ap (settled_answer s c) settles ∙ ap (λ (t : CoreState). Accepted (record t { version = version + 1 }) (reply_of s c c.state)) state),
-      rw state (rw (states_are p version inputs quiet, states_are p version inputs' quiet) refl),
+      shown ∙ sym (plain_text p (reply_of s c c.state) plain none),
     )
 
 next_at : (p : Program) (version : ℕ) (inputs inputs' : List Value) (tried : Tried) → LooksUpNothing p → (version == 2 ^ 64 - 1) ≡ false
     → IsChangeTo p version inputs' tried → IsNext p version inputs inputs' (answer (plain_core p version inputs) tried)
-next_at p version inputs inputs' tried quiet unused (c, is, state) =
-    subst (λ (t : Tried). IsNext p version inputs inputs' (answer (plain_core p version inputs) t)) (sym is) (next_by p version inputs inputs' c quiet unused state)
+next_at p version inputs inputs' tried quiet unused (c, is, state, plain) =
+    subst (λ (t : Tried). IsNext p version inputs inputs' (answer (plain_core p version inputs) t)) (sym is) (next_by p version inputs inputs' c quiet unused state plain)
 
 used_at : (p : Program) (version : ℕ) (inputs inputs' : List Value) (tried : Tried) → (version == 2 ^ 64 - 1) ≡ true
     → IsChangeTo p version inputs' tried → answer (plain_core p version inputs) tried ≡ Refused refusal.NumbersUsed
-used_at p version inputs inputs' tried used (c, is, state) =
+used_at p version inputs inputs' tried used (c, is, state, plain) =
     let s : CoreState = plain_core p version inputs in
     ap (answer s) is ∙ ap (λ (b : Bool). if b then Refused refusal.NumbersUsed else settled_answer s c (settle c.state)) used
 

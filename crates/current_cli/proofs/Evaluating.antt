@@ -1,10 +1,9 @@
 -- Nodes that are kept evaluated, and what a change of one input leaves.
-use Rattle.std.proofs.Common.{◌≡◌, ℕ, zero, suc, ◌+◌, ◌<◌, Bool, true, false, cond, ◌||◌, List, [], ◌∷◌, ◌++◌, length, take, Some, refl, sym, ap, subst, ◌∙◌, arith}
+use Rattle.std.proofs.Common.{◌≡◌, ℕ, zero, suc, ◌+◌, Bool, true, false, ◌||◌, List, [], ◌∷◌, ◌++◌, length, take, Some, refl, ap, subst, ◌∙◌, arith}
 use Rattle.std.specs.Prelude.{◌==◌, if◌then◌else◌, slice_get, IfOk}
 use Rattle.std.specs.declared.result.Result.{Result}
 use Rattle.std.specs.declared.result.Result.TheVariants.{Ok, Err}
 use Rattle.std.proofs.Math.ListN.{set}
-use Rattle.std.proofs.lemmas.Bool.Decides.{nat_tests}
 use Rattle.value_core.specs.Codes.{state_code}
 use Rattle.value_core.specs.Same.{same}
 use Rattle.value_core.proofs.Basics.{nat_is_not, same_test}
@@ -12,7 +11,6 @@ use Rattle.value_core.proofs.Sames.{same_refl, same_true}
 use Rattle.value_core.specs.declared.state.State.{State}
 use Rattle.value_core.specs.declared.value.Value.{Value}
 use Rattle.term_core.specs.Evaluation.{value_or_unit}
-use Rattle.term_core.specs.World.{World, entry_of}
 use Rattle.term_core.specs.declared.program.Program.{Program}
 use Rattle.core_rules.specs.Replies.{changed_from}
 use Rattle.term_core.specs.Fresh.{fresh}

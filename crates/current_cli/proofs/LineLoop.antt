@@ -23,7 +23,7 @@ use Rattle.current_cli.specs.Transcripts.{Transcript, Quits, Limit, before, ende
 use Rattle.current_cli.specs.inside.Cores.{LooksUpNothing, plain_core}
 use Rattle.current_cli.specs.inside.Stops.{line_stop}
 use Rattle.current_cli.specs.inside.Turns.{IsRunOf, IsTurn, line_turn}
-use Rattle.current_cli.proofs.QuietCores.{opens as quiet_opens}
+use Rattle.current_cli.proofs.QuietCores.{no_conflicts, opens as quiet_opens, plain_text}
 use Rattle.current_cli.proofs.Writing.{did_none, did_more, did_stops, then_stopped, stopped_longer, nothing_done, print_failed, printed}
 
 -- of the bytes that the input had left and those ahead, where they are known: the outputs of the lines in between were written
@@ -137,12 +137,12 @@ pub never_opened : (T : Type 0) (a : Option (List ℕ)) (p : Program) (w : Optio
 never_opened T None p w = tt
 never_opened T (Some a) p w = nothing_done (transcript p a).outputs w
 
-pub stopped_opening : (T : Type 0) (a : Option (List ℕ)) (p : Program) (s : CoreState) (text : List ℕ) (w w' : Option (List ℕ)) → opening p ≡ Some s → text ≡ reply_text s.program (opening_reply s)
+pub stopped_opening : (T : Type 0) (a : Option (List ℕ)) (p : Program) (s : CoreState) (text : List ℕ) (w w' : Option (List ℕ)) → opening p ≡ Some s → text ≡ reply_text s.program (opening_reply s) None
     → AppendsFront w w' text → IfSome a (λ bytes. IsRunOf {T = T} (transcript p bytes) (Err WriteFault) w w')
 stopped_opening T None p s text w w' opened is front = tt
 stopped_opening T (Some a) p s text w w' opened is front = rw opened (rw is at (print_failed text (lines_from (lines_of a) s).outputs w w' front))
 
-pub opens : {T : Type 0} (result : Result T Stop) (a : Option (List ℕ)) (p : Program) (s : CoreState) (text : List ℕ) (w w1 w2 : Option (List ℕ)) → opening p ≡ Some s → text ≡ reply_text s.program (opening_reply s)
+pub opens : {T : Type 0} (result : Result T Stop) (a : Option (List ℕ)) (p : Program) (s : CoreState) (text : List ℕ) (w w1 w2 : Option (List ℕ)) → opening p ≡ Some s → text ≡ reply_text s.program (opening_reply s) None
     → Appends w w1 text → IfSome a (λ bytes. IsRunOf (lines_from (lines_of bytes) s) result w1 w2) → IfSome a (λ bytes. IsRunOf (transcript p bytes) result w w2)
 opens result None p s text w w1 w2 opened is first run = tt
 opens result (Some a) p s text w w1 w2 opened is first run =
@@ -160,10 +160,16 @@ passed_on {T = T} a t (Err e) stop w w' is run = subst (λ (s : Stop). IfSome a 
 some_is : (s t : CoreState) → Some s ≡ Some t → s ≡ t
 some_is s t e = cc
 
-first_version : (p : Program) (s : CoreState) → LooksUpNothing p → opening p ≡ Some s → s.version ≡ 1
-first_version p s quiet is =
-    let same : s ≡ plain_core p 1 (map (λ d. d.value) p.inputs) = some_is s (plain_core p 1 (map (λ d. d.value) p.inputs)) (sym is ∙ quiet_opens p quiet) in
-    ap (λ (t : CoreState). t.version) same
+first_is : (p : Program) (s : CoreState) → LooksUpNothing p → opening p ≡ Some s → s ≡ plain_core p 1 (map (λ d. d.value) p.inputs)
+first_is p s quiet is = some_is s (plain_core p 1 (map (λ d. d.value) p.inputs)) (sym is ∙ quiet_opens p quiet)
 
-pub first_lines_are : (p : Program) (s : CoreState) (text : List ℕ) → LooksUpNothing p → opening p ≡ Some s → text ≡ version_text s.program s.version (opening_reply s).changed → text ≡ reply_text s.program (opening_reply s)
-first_lines_are p s text quiet is e = e ∙ ap (λ (n : ℕ). version_text s.program n (opening_reply s).changed) (first_version p s quiet is)
+-- it has no conflict
+first_quiet : (p : Program) (s : CoreState) → LooksUpNothing p → opening p ≡ Some s → (opening_reply s).conflicts ≡ []
+first_quiet p s quiet is =
+    ap (λ (t : CoreState). (opening_reply t).conflicts) (first_is p s quiet is) ∙ no_conflicts [] (plain_core p 1 (map (λ d. d.value) p.inputs)) quiet
+
+pub first_lines_are : (p : Program) (s : CoreState) (text : List ℕ) → LooksUpNothing p → opening p ≡ Some s → text ≡ version_text s.program s.version (opening_reply s).changed → text ≡ reply_text s.program (opening_reply s) None
+first_lines_are p s text quiet is e =
+    e
+    ∙ ap (λ (n : ℕ). version_text s.program n (opening_reply s).changed) (ap (λ (t : CoreState). t.version) (first_is p s quiet is))
+    ∙ sym (plain_text s.program (opening_reply s) refl (first_quiet p s quiet is))

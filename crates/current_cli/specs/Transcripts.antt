@@ -51,7 +51,7 @@ refused s None = record { outputs = []; core = None }
 
 -- the version after an accepted event, or the refusal
 abbrev pub turn_of : CoreState → Answer → Turn
-turn_of s (Accepted next reply) = prints (reply_text next.program reply) next
+turn_of s (Accepted next reply) = prints (reply_text next.program reply None) next
 turn_of s (Idle reply) = passes s
 turn_of s (Refused r) = refused s (refusal_words r)
 
@@ -100,7 +100,7 @@ lines_from (line ∷ lines) s =
 -- version 1, and then the lines of the input
 abbrev pub session_from : List ℕ → CoreState → Transcript
 session_from bytes s =
-    before (Print (reply_text s.program (opening_reply s)) ∷ []) (lines_from (lines_of bytes) s)
+    before (Print (reply_text s.program (opening_reply s) None) ∷ []) (lines_from (lines_of bytes) s)
 
 -- all that a session on a program over the bytes of the input does
 abbrev pub transcript : Program → List ℕ → Transcript

@@ -7,7 +7,7 @@ ghost use Rattle.report_text.specs.Lines.{version_text};
 ghost use Rattle.current_cli.specs.inside.Evaluated.{IsAfter, IsBefore, IsEvaluated, change_text};
 
 use incr_eval::{Changes, EvalPlan, Live};
-use report_text::version_lines;
+use report_text::state_lines;
 use std::alloc::Global;
 use std::marker::Brand;
 use std::sync::ledger::{Blank, Ledger};
@@ -121,7 +121,7 @@ fn planned_lines(
         version_text change.now.program.now change.now.version plan.now.changed) }
 {
     let changed = plan.changed()?;
-    version_lines(alloc, change.program, change.version, changed.as_slice())
+    state_lines(alloc, change.program, change.version, changed.as_slice())
 }
 
 /// Evaluates what a change makes dirty. The answer is the lines of the version. Out of memory all

@@ -12,7 +12,7 @@ use crate::evaluation::{Change, advance, all_states, evaluated};
 use core_rules::Refusal;
 use incr_eval::Live;
 use op_keys::index_of;
-use report_text::version_lines;
+use report_text::state_lines;
 use std::alloc::Global;
 use std::marker::Model;
 use std::mem;
@@ -86,7 +86,7 @@ impl Core {
     {
         let program = self.checked.program();
         let nodes = all_states(self.alloc, &self.live, program.nodes.len() as u32)?;
-        version_lines(self.alloc, program, self.version, nodes.as_slice())
+        state_lines(self.alloc, program, self.version, nodes.as_slice())
     }
 
     /// Whether the input at an index takes the value.

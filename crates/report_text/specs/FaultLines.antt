@@ -53,3 +53,13 @@ what_text what.NoMemory = []
 -- what is wrong with a program
 abbrev pub check_text : Program → CheckFault → List ℕ
 check_text p f = place_text p f.place ++ (codes ": " ++ what_text f.what)
+
+-- ---- faults of a session
+
+-- the session took all that it may take
+abbrev pub limit_line : List ℕ
+limit_line = error_line (codes "limit")
+
+-- a stored row isn't well formed: the name of its table, and its number
+unfoldable pub row_line : List ℕ → ℕ → List ℕ
+row_line table number = codes "error: row " ++ (table ++ (codes " " ++ (decimal number ++ codes "\n")))

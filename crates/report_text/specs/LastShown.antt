@@ -1,5 +1,5 @@
 -- What the lines of a version show.
-use Rattle.std.specs.Prelude.{◌≡◌, ℕ, ◌<◌, ◌==◌, if◌then◌else◌, List, [], ◌∷◌, length, Option, Some, None, slice_get}
+use Rattle.std.specs.Prelude.{◌≡◌, ℕ, ◌<◌, ◌==◌, if◌then◌else◌, List, [], ◌∷◌, length, Option, Some, slice_get}
 use Rattle.value_core.specs.declared.state.State.{State}
 use Rattle.core_rules.specs.Replies.{changed_from}
 

@@ -1,6 +1,6 @@
 //! The lines of faulty files.
 ghost use Rattle.std.specs.Prelude.{◌≡◌, IfOk};
-ghost use Rattle.report_text.specs.FaultLines.{check_text, error_line, found_text, other_text, place_text, read_text, what_text};
+ghost use Rattle.report_text.specs.FaultLines.{check_text, error_line, found_text, limit_line, other_text, place_text, read_text, row_line, what_text};
 ghost use Rattle.report_text.specs.inside.Writers.{Adds, mismatch_text};
 
 use crate::names::name_at;
@@ -127,5 +127,21 @@ pub fn check_line(
     line.push_str(": ")?;
     write_what(&mut line, &fault.what)?;
     line.push_str("\n")?;
+    Ok(ListOf::from_vec(line.into_bytes()))
+}
+
+/// The line of a session that took all that it may take.
+pub fn limit_line() -> &'static [u8]
+    ensures { result.now ≡ limit_line }
+{
+    b"error: limit\n"
+}
+
+/// The line of a stored row that isn't well formed, by its table's name and its number.
+#[tactic(auto, unfolding(crate::specs::FaultLines::row_line))]
+pub fn row_line(alloc: Global, table: &str, number: u64) -> Result<ListOf<u8>, NoMemory>
+    ensures { IfOk result (λ line. line ≡ row_line table.now number) }
+{
+    let line = format!(in alloc; "error: row {table} {number}\n")?;
     Ok(ListOf::from_vec(line.into_bytes()))
 }

@@ -1,28 +1,19 @@
 //! The lines of a session.
 ghost use Rattle.std.specs.Prelude.{◌≡◌, IfOk, IfSome};
-ghost use Rattle.report_text.specs.Lines.{node_line, node_name, refusal_words, refused_line, stage_word, state_text, version_text};
+ghost use Rattle.report_text.specs.Lines.{node_line, node_name, refusal_words, refused_line, state_text, version_text};
 ghost use Rattle.report_text.specs.inside.Writers.{Adds};
 
 use crate::names::name_at;
+use crate::words::stage_word;
 use core_rules::Refusal;
 use std::alloc::Global;
 use term_core::Program;
-use value_core::{ListOf, NoMemory, Stage, State, write_text, write_value};
+use value_core::{ListOf, NoMemory, State, write_text, write_value};
 
 fn node_name(program: &Program, node: usize) -> &str
     ensures { result.now ≡ node_name program.now node }
 {
     name_at(program.nodes.as_slice(), node)
-}
-
-fn stage_word(stage: Stage) -> &'static str
-    ensures { result.now ≡ stage_word stage }
-{
-    match stage {
-        Stage::Ready => "ready",
-        Stage::Waiting => "waiting",
-        Stage::Running => "running",
-    }
 }
 
 #[tactic(auto, unfolding(crate::specs::Lines::state_text))]
@@ -65,9 +56,25 @@ fn write_line(
     out.push_str("\n")
 }
 
-/// The version's number, and a line for each of these nodes, which are by their numbers in file order.
+/// Writes a version's number, and a line for each of these nodes.
 #[tactic(auto, unfolding(crate::specs::Lines::version_text))]
-pub fn version_lines(
+pub(crate) fn write_version(
+    out: &mut String,
+    program: &Program,
+    version: u64,
+    changed: &[(u32, State)],
+) -> Result<(), NoMemory>
+    ensures { Adds result out.old out.new (version_text program.now version changed.now) }
+{
+    write!(out, "version {version}\n")?;
+    for node in changed {
+        write_line(out, program, node.0 as usize, &node.1)?;
+    }
+    Ok(())
+}
+
+/// The version's number, and a line for each of these nodes, which are by their numbers in file order.
+pub fn state_lines(
     alloc: Global,
     program: &Program,
     version: u64,
@@ -75,10 +82,8 @@ pub fn version_lines(
 ) -> Result<ListOf<u8>, NoMemory>
     ensures { IfOk result (λ text. text ≡ version_text program.now version changed.now) }
 {
-    let mut out = format!(in alloc; "version {version}\n")?;
-    for node in changed {
-        write_line(&mut out, program, node.0 as usize, &node.1)?;
-    }
+    let mut out = String::new(alloc);
+    write_version(&mut out, program, version, changed)?;
     Ok(ListOf::from_vec(out.into_bytes()))
 }
 

@@ -77,6 +77,6 @@ IsChoice s name v (Err r) = chosen s name v ≡ Err r
 -- and where memory ran out, the core is as before
 abbrev pub IsAnswer : CoreState → Answer → Result (List ℕ) Refusal → CoreState → Type 0
 IsAnswer s answer (Ok text) s' =
-    (r : Done) × (answer ≡ Accepted s' r) × (text ≡ reply_text s'.program r)
+    (r : Done) × (answer ≡ Accepted s' r) × (text ≡ reply_text s'.program r None)
 IsAnswer s answer (Err refusal.NoMemory) s' = s' ≡ s
 IsAnswer s answer (Err r) s' = (answer ≡ Refused r) × (s' ≡ s)

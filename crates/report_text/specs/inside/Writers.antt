@@ -2,7 +2,11 @@
 use Rattle.std.specs.Prelude.{◌≡◌, ℕ, List, ◌++◌, codes, Result, OnOk, String, string_bytes}
 use Rattle.value_core.specs.declared.value.Kind.{Kind}
 use Rattle.term_check.specs.declared.wanted.Wanted.{Wanted}
+use Rattle.std.specs.List.{flat_map}
+use Rattle.term_core.specs.declared.program.Program.{Program}
+use Rattle.report_text.specs.declared.live_jobs.LiveJob.{LiveJob}
 use Rattle.report_text.specs.FaultLines.{found_text, other_text}
+use Rattle.report_text.specs.Lines.{job_line}
 use Rattle.report_text.specs.Reports.{names_at, or_none}
 
 -- unless something failed, the text has these bytes more
@@ -16,3 +20,7 @@ names_or_none name ds ns = or_none (names_at name ds ns)
 -- two kinds that differ
 abbrev pub mismatch_text : Kind → Wanted → List ℕ
 mismatch_text found wanted = codes "kind mismatch" ++ (found_text found ++ other_text wanted)
+
+-- the lines of these live jobs
+abbrev pub live_text : Program → List LiveJob → List ℕ
+live_text p ls = flat_map (λ l. job_line p l.job.now l.stage l.refs) ls

@@ -11,4 +11,4 @@ returns c =
     let e =
     ap (version_text c.self.inside.checked c.self.inside.version) shown
     ∙ first_text c.args.self.now c.self.inside.checked c.self.inside.version c.self.inside.inputs.items (states c.self.inside.live.trees) c.self.invariant.quiet (sym c.self.view_is) c.self.invariant.evaluated.fresh_states in
-    subst (λ (t : List ℕ). IfOk c.version_lines.result (λ text. text ≡ t)) e (rw c.program-program.ensures.program at c.version_lines.ensures)
+    subst (λ (t : List ℕ). IfOk c.state_lines.result (λ text. text ≡ t)) e (rw c.program-program.ensures.program at c.state_lines.ensures)

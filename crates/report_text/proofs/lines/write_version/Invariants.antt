@@ -2,7 +2,7 @@ use Rattle.std.proofs.Common.{◌≡◌, ◌++◌, drop}
 use Rattle.std.specs.List.{flat_map}
 use Rattle.std.specs.String.{string_bytes}
 use Rattle.report_text.specs.Lines.{node_line}
-use Rattle.report_text.proofs.lines.version_lines.Given as goal
+use Rattle.report_text.proofs.lines.write_version.Given as goal
 
 abbrev pub invariant-loop-node : goal.invariant-loop-node
 invariant-loop-node l =
