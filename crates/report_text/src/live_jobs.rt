@@ -10,6 +10,7 @@ use term_core::Program;
 use value_core::{ListOf, NoMemory, Stage};
 
 /// A live job, its stage, and how often its triple is wanted.
+#[derive(Drop)]
 pub struct LiveJob<'a> {
     pub job: &'a Job,
     pub stage: Stage,
