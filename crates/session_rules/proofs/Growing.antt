@@ -1,0 +1,124 @@
+-- Known lists grow, and tables change, once and again.
+use Rattle.std.proofs.Common.{◌≡◌, ℕ, List, [], ◌∷◌, ◌++◌, refl, sym, ap, subst, ◌∙◌, append_assoc, inl, inr}
+use Rattle.std.specs.Prelude.{◌↔◌, IfSome}
+use Rattle.std.specs.declared.option.Option.{Option}
+use Rattle.std.specs.declared.option.Option.TheVariants.{None, Some}
+use Rattle.std.specs.Io.KnownBytes.{Appends}
+use Rattle.std.proofs.lemmas.List.{append-nil}
+use Rattle.op_keys.specs.declared.order.Exit.{Exit}
+use Rattle.op_keys.specs.declared.order.Order.{Order}
+use Rattle.core_rules.specs.declared.done.Delta.{Delta}
+use Rattle.keeper_core.specs.declared.stored.Stored.{Stored}
+use Rattle.keeper_core.specs.EitherSchema.{committed}
+use Rattle.keeper_core.specs.KeeperCalls.{Known, IsSure}
+use Rattle.session_rules.specs.Outputs.{Output, Commit, Print, Run, deltas, exits, runs, texts}
+use Rattle.session_rules.specs.Outside.{Grows, Keeps, Leaves, with_deltas}
+
+-- ---- lists of outputs
+
+pub texts_append : (xs ys : List Output) → texts (xs ++ ys) ≡ texts xs ++ texts ys
+texts_append [] ys = refl
+texts_append (Commit d ∷ xs) ys = texts_append xs ys
+texts_append (Print t ∷ xs) ys = ap (λ (r : List ℕ). t ++ r) (texts_append xs ys) ∙ sym (append_assoc t (texts xs) (texts ys))
+texts_append (Run o x ∷ xs) ys = texts_append xs ys
+
+pub runs_append : (xs ys : List Output) → runs (xs ++ ys) ≡ runs xs ++ runs ys
+runs_append [] ys = refl
+runs_append (Commit d ∷ xs) ys = runs_append xs ys
+runs_append (Print t ∷ xs) ys = runs_append xs ys
+runs_append (Run o x ∷ xs) ys = ap (λ (r : List (Order × Exit)). (o, x) ∷ r) (runs_append xs ys)
+
+pub exits_append : (xs ys : List Output) → exits (xs ++ ys) ≡ exits xs ++ exits ys
+exits_append [] ys = refl
+exits_append (Commit d ∷ xs) ys = exits_append xs ys
+exits_append (Print t ∷ xs) ys = exits_append xs ys
+exits_append (Run o x ∷ xs) ys = ap (λ (r : List Exit). x ∷ r) (exits_append xs ys)
+
+pub deltas_append : (xs ys : List Output) → deltas (xs ++ ys) ≡ deltas xs ++ deltas ys
+deltas_append [] ys = refl
+deltas_append (Commit d ∷ xs) ys = ap (λ (r : List Delta). d ∷ r) (deltas_append xs ys)
+deltas_append (Print t ∷ xs) ys = deltas_append xs ys
+deltas_append (Run o x ∷ xs) ys = deltas_append xs ys
+
+pub with_deltas_append : (s : Stored) (ds es : List Delta) → with_deltas (ds ++ es) s ≡ with_deltas es (with_deltas ds s)
+with_deltas_append s [] es = refl
+with_deltas_append s (d ∷ ds) es = with_deltas_append (committed d s) ds es
+
+-- ---- known bytes and lists
+
+pub appends_more : (a b c : Option (List ℕ)) (x y z : List ℕ) → Appends a b x → Appends b c y → x ++ y ≡ z → Appends a c z
+appends_more None b c x y z p q e = tt
+appends_more (Some a) None c x y z p q e = absurd p
+appends_more (Some a) (Some b) None x y z p q e = absurd q
+appends_more (Some a) (Some b) (Some c) x y z p q e = q ∙ ap (λ (t : List ℕ). t ++ y) p ∙ append_assoc a x y ∙ ap (λ (t : List ℕ). a ++ t) e
+
+pub appends_none : (a : Option (List ℕ)) → Appends a a []
+appends_none None = tt
+appends_none (Some a) = sym (append-nil a)
+
+pub appends_same : (a b : Option (List ℕ)) (x y : List ℕ) → Appends a b x → x ≡ y → Appends a b y
+appends_same a b x y p e = subst (λ (t : List ℕ). Appends a b t) e p
+
+pub grows_more : {A : Type 0} (a b c : Option (List A)) (x y z : List A) → Grows a b x → Grows b c y → x ++ y ≡ z → Grows a c z
+grows_more None b c x y z p q e = tt
+grows_more (Some a) None c x y z p q e = absurd p
+grows_more (Some a) (Some b) None x y z p q e = absurd q
+grows_more {A} (Some a) (Some b) (Some c) x y z p q e = q ∙ ap (λ (t : List A). t ++ y) p ∙ append_assoc a x y ∙ ap (λ (t : List A). a ++ t) e
+
+pub grows_none : {A : Type 0} (a : Option (List A)) → Grows a a []
+grows_none None = tt
+grows_none (Some a) = sym (append-nil a)
+
+-- ---- what is kept
+
+some_is : {A : Type 0} (x y : A) → Some x ≡ Some y → x ≡ y
+some_is x y e = cc
+
+none_is : {A : Type 0} (x : A) → None ≡ Some x → ⊥
+none_is x e = cc
+
+pub kept_at : (old new : Option Stored) (ds : List Delta) (s : Stored) → Keeps old new ds → new ≡ Some s → (was : Stored) × (old ≡ Some was) × (s ≡ with_deltas ds was)
+kept_at old None ds s k e = absurd (none_is s e)
+kept_at old (Some u) ds s k e = (k.0, k.1, sym (some_is u s e) ∙ k.2)
+
+pub keeps_none : (k : Option Stored) → Keeps k k []
+keeps_none None = tt
+keeps_none (Some s) = (s, refl, refl)
+
+pub keeps_more : (a b c : Option Stored) (ds es : List Delta) → Keeps a b ds → Keeps b c es → Keeps a c (ds ++ es)
+keeps_more a b None ds es p q = tt
+keeps_more a b (Some s) ds es p q =
+    let was = kept_at a b ds q.0 p q.1 in
+    (was.0, was.1, q.2 ∙ ap (with_deltas es) was.2 ∙ sym (with_deltas_append was.0 ds es))
+
+-- a claim about known tables
+pub if_some_at : (o : Option Stored) (P : Stored → Type 0) (s : Stored) → IfSome o P → o ≡ Some s → P s
+if_some_at None P s p e = absurd (none_is s e)
+if_some_at (Some u) P s p e = subst P (some_is u s e) p
+
+pub if_some : (o : Option Stored) (P : Stored → Type 0) → ((s : Stored) → o ≡ Some s → P s) → IfSome o P
+if_some None P f = tt
+if_some (Some s) P f = f s refl
+
+-- a stop after commits that were all kept
+pub leaves_kept : (a b : Known) (ds : List Delta) → Keeps a.tables b.tables ds → IsSure b → Leaves a b ds []
+leaves_kept a b ds kept sure =
+    if_some b.tables _ (λ (s : Stored) (e : b.tables ≡ Some s) (x : Stored) (left : b.after_stop x).
+    let was = kept_at a.tables b.tables ds s kept e in
+    let just = if_some_at b.tables (λ (t : Stored). (y : Stored) → b.after_stop y ↔ (y ≡ t)) s sure e in
+    (was.0, was.1, inl ((just x).0 left ∙ was.2)))
+
+-- a stop after further ones
+pub leaves_after : (a b c : Known) (ds es more : List Delta) → Keeps a.tables b.tables ds → Leaves b c es more → Leaves a c (ds ++ es) more
+leaves_after a b c ds es more kept leaves =
+    if_some c.tables _ (λ (s : Stored) (e : c.tables ≡ Some s) (x : Stored) (left : c.after_stop x).
+    let at = if_some_at c.tables _ s leaves e x left in
+    let was = kept_at a.tables b.tables ds at.0 kept at.1 in
+    let moved : (fs : List Delta) → with_deltas fs at.0 ≡ with_deltas (ds ++ fs) was.0 = λ fs. ap (with_deltas fs) was.2 ∙ sym (with_deltas_append was.0 ds fs) in (
+      was.0,
+      was.1,
+      elim at.2 [
+        | inl p ↦ inl (p ∙ moved es)
+        | inr p ↦ inr (p ∙ moved (es ++ more) ∙ ap (λ (fs : List Delta). with_deltas fs was.0) (sym (append_assoc ds es more)))
+      ],
+    ))

@@ -1,0 +1,11 @@
+pub mod Outputs
+pub mod Outside
+pub mod Scenes
+pub mod Parts
+pub mod Steps
+pub mod Watching
+pub mod Transcripts
+pub mod Sessions
+pub mod StoreTexts
+pub mod Commands
+pub mod Runs
