@@ -15,7 +15,7 @@ mod words;
 
 pub use controls::{Control, ControlFault, read_control};
 pub use fault_lines::{check_line, limit_line, read_line, row_line};
-pub use laws::versions_show_all_states;
+pub use laws::{live_jobs_have_their_lines, versions_show_all_states};
 pub use lines::{refusal_line, state_lines};
 pub use live_jobs::{LiveJob, job_lines};
 pub use replies::version_lines;
