@@ -27,3 +27,4 @@ pub mod RebuiltSteps
 pub mod RebuiltScript
 pub mod SharedSteps
 pub mod SharedScript
+pub mod StoredScript
