@@ -137,7 +137,8 @@ mark_text Unmarked = []
 mark_text Automatic = codes " cancelling"
 mark_text User = codes " cancelling"
 
--- the line of a live job, by its stage and the count of its references: `job N OP "KEY" STAGE refs R`, with ` "VALUE"` and ` cancelling` as they are due
+-- the line of a live job, by its stage and the count of its references: `job N OP "KEY" STAGE refs R`;
+-- an output's value follows the key, and ` cancelling` ends the line of a job with a mark
 unfoldable pub job_line : Program → Job → Stage → ℕ → List ℕ
 job_line p j stage refs =
     codes "job "
