@@ -16,20 +16,24 @@ use Rattle.core_rules.specs.declared.notes.Ending.TheVariants as ending
 use Rattle.core_rules.specs.declared.notes.Note.TheVariants as note
 use Rattle.core_rules.specs.declared.done.Done.{Done}
 use Rattle.core_rules.specs.Replies.{next_alone}
+use Rattle.core_rules.specs.Steps.{Refused, step}
+use Rattle.core_rules.specs.declared.events.Refusal.TheVariants as refusal
+use Rattle.term_core.specs.Counts.{count_of}
+use Rattle.term_core.specs.Fresh.{FreshRun}
 use Rattle.core_rules.proofs.WorkedRuns.{found, found_is, quiet}
-use Rattle.report_text.specs.declared.controls.Control.TheVariants.{Event}
+use Rattle.report_text.specs.declared.controls.Control.TheVariants.{Event, Jobs}
 use Rattle.report_text.specs.Controls.{control_read, control_word}
-use Rattle.report_text.specs.Lines.{reply_text, step_text, note_text, start_line, end_line, ending_text, target_text, key_text, set_text, version_text, node_line, state_text, conflict_line, evaluated_text}
+use Rattle.report_text.specs.Lines.{reply_text, step_text, note_text, start_line, end_line, ending_text, target_text, key_text, set_text, version_text, node_line, state_text, conflict_line, evaluated_text, job_line, jobs_text}
 use Rattle.session_rules.specs.Outputs.{Output, Commit, Print, Run, texts}
 use Rattle.session_rules.specs.Parts.{preceded, does}
 use Rattle.session_rules.specs.Steps.{all_orders, one_order}
 use Rattle.keeper_core.specs.Contents.{fresh, loaded}
-use Rattle.session_rules.specs.Transcripts.{Quits, asked_part, before, before_lines, opening_part, session_of, transcript}
+use Rattle.session_rules.specs.Transcripts.{Quits, asked_part, before, before_lines, event_now, opening_part, session_of, transcript}
 use Rattle.session_rules.specs.Watching.{watch_all}
-use Rattle.session_rules.proofs.Going.{before_lines_are, event_goes, line_goes, opening_by, opening_shown, order_is, orders_end, orders_go, session_goes, fresh_goes}
+use Rattle.session_rules.proofs.Going.{before_lines_are, event_goes, event_refused, line_goes, opening_by, opening_shown, order_is, orders_end, orders_go, session_goes, fresh_goes}
 use Rattle.session_rules.proofs.Texts.{printed_words}
 use Rattle.session_rules.proofs.Written.{fine, over_at, scene_at}
-use Rattle.core_rules.proofs.OneBuild.{order, pipeline, x}
+use Rattle.core_rules.proofs.OneBuild.{order, pipeline, queued, x}
 use Rattle.core_rules.proofs.LevelRun.{confirmed, eighth, ended, fifth, fourth, held_back, left, let_go, opened, opening, paused, resumed, second, sixth, taken, third}
 
 -- ---- what is done
@@ -199,3 +203,24 @@ script_is =
 -- what is written
 pub text_is : texts all_outputs ≡ codes "version 1\nr: active waiting at r\nversion 2\nversion 3\nr: active ready at r\nversion 4\nr: active waiting at r\nversion 5\nversion 6\nr: active ready at r\nstart 1 w test \"x\"\nversion 7\nr: active running at r\nend 1 ok\nversion 8\nr: ok \"one\"\n"
 text_is = refl
+
+-- ---- `jobs` at its beginning
+
+-- the line of the job that waits, by what the nodes come to
+abbrev jobs_by : FreshRun → List ℕ
+jobs_by f = job_line pipeline (queued 1 (codes "x")) Waiting (count_of f.wants (queued 1 (codes "x")).triple) ++ []
+
+pub jobs_are : jobs_text opened ≡ codes "job 1 test \"x\" waiting refs 1\n"
+unfolding jobs_text job_line target_text key_text set_text digits
+jobs_are = ap jobs_by (found_is x [] opened)
+
+pub jobs_print : asked_part None (Some Jobs) (scene_at opened 0 [] []) ≡ does (Print (codes "job 1 test \"x\" waiting refs 1\n") ∷ []) (scene_at opened 0 [] [])
+jobs_print = ap (λ (t : List ℕ). does (Print t ∷ []) (scene_at opened 0 [] [])) jobs_are
+
+-- a job that isn't there is refused
+refused_9 : step opened (record { at = 0; what = what.Cancel 9 }) ≡ Refused refusal.UnknownJob
+unfolding step
+refused_9 = refl
+
+pub refusal_prints : event_now None (what.Cancel 9) (scene_at opened 0 [] []) ≡ does (Print (codes "refused unknown job\n") ∷ []) (scene_at opened 0 [] [])
+refusal_prints = event_refused None (scene_at opened 0 [] []) (what.Cancel 9) refused_9 refl
