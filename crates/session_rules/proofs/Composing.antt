@@ -1,5 +1,5 @@
 -- Parts of a session that are done one after the other.
-use Rattle.std.proofs.Common.{◌≡◌, List, [], ◌++◌, refl, sym, ap, ◌∙◌, append_assoc}
+use Rattle.std.proofs.Common.{◌≡◌, List, [], ◌++◌, refl, sym, ap, ◌∙◌}
 use Rattle.std.specs.Prelude.{Option, Some, None}
 use Rattle.std.proofs.lemmas.List.{append-nil}
 use Rattle.op_keys.specs.declared.order.Exit.{Exit}
@@ -8,15 +8,11 @@ use Rattle.session_rules.specs.Outside.{Outside, Did}
 use Rattle.session_rules.specs.Parts.{Turn, Part, Does, StopsIn, UsesUp, does, nothing, preceded, go_on, followed, then_do}
 use Rattle.session_rules.specs.Scenes.{Scene, expecting}
 use Rattle.session_rules.proofs.Doing.{did_more, did_none, did_stops, nothing_done, stopped_longer, then_stopped}
-use Rattle.session_rules.proofs.Growing.{exits_append}
+use Rattle.session_rules.proofs.Growing.{exits_append, exits_more}
 
 -- nothing is done
 pub does_nothing : (s : Scene) (e : Outside) → Does nothing s s e e
 does_nothing s e = record { outputs = []; goes = λ more. refl; did = did_none e }
-
--- the exits of two runs of outputs, and more
-exits_more : (xs ys : List Output) (more : List Exit) → exits (xs ++ ys) ++ more ≡ exits xs ++ (exits ys ++ more)
-exits_more xs ys more = ap (λ (l : List Exit). l ++ more) (exits_append xs ys) ∙ append_assoc (exits xs) (exits ys) more
 
 -- a part was done, and then another
 pub does_then : (p q : Part) (s t u : Scene) (a b c : Outside) → Does p s t a b → Does q t u b c → Does (then_do p q) s u a c

@@ -34,6 +34,10 @@ exits_append (Commit d ∷ xs) ys = exits_append xs ys
 exits_append (Print t ∷ xs) ys = exits_append xs ys
 exits_append (Run o x ∷ xs) ys = ap (λ (r : List Exit). x ∷ r) (exits_append xs ys)
 
+-- the exits of two runs of outputs, and more
+pub exits_more : (xs ys : List Output) (more : List Exit) → exits (xs ++ ys) ++ more ≡ exits xs ++ (exits ys ++ more)
+exits_more xs ys more = ap (λ (l : List Exit). l ++ more) (exits_append xs ys) ∙ append_assoc (exits xs) (exits ys) more
+
 pub deltas_append : (xs ys : List Output) → deltas (xs ++ ys) ≡ deltas xs ++ deltas ys
 deltas_append [] ys = refl
 deltas_append (Commit d ∷ xs) ys = ap (λ (r : List Delta). d ∷ r) (deltas_append xs ys)

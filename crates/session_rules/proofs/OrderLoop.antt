@@ -9,10 +9,7 @@ use Rattle.session_rules.specs.Scenes.{Scene, expecting}
 use Rattle.session_rules.specs.Steps.{Counting, free_worker, next_order, one_order, orders, pause_outputs}
 use Rattle.session_rules.proofs.Composing.{does_known, stops_longer, uses_up_longer}
 use Rattle.session_rules.proofs.Doing.{did_more, did_none, then_stopped}
-use Rattle.session_rules.proofs.Growing.{exits_append}
-
-exits_more : (xs ys : List Output) (more : List Exit) → exits (xs ++ ys) ++ more ≡ exits xs ++ (exits ys ++ more)
-exits_more xs ys more = ap (λ (l : List Exit). l ++ more) (exits_append xs ys) ∙ append_assoc (exits xs) (exits ys) more
+use Rattle.session_rules.proofs.Growing.{exits_append, exits_more}
 
 preceded_twice : (xs ys : List Output) (w : Turn) → preceded xs (preceded ys w) ≡ preceded (xs ++ ys) w
 preceded_twice xs ys w = ap (λ (l : List Output). record { outputs = l; scene = w.scene }) (sym (append_assoc xs ys w.outputs))

@@ -34,6 +34,7 @@ use Rattle.core_rules.proofs.Leaves.{input_is, return_is}
 use Rattle.core_rules.proofs.ReplyParts.{sets}
 use Rattle.core_rules.proofs.WorkedRuns.{Evaluated, answered, at, nothing_stored, opens, quiet}
 use Rattle.session_rules.proofs.Builds.{changed_other, texts_differ}
+use Rattle.value_core.proofs.Layers.{num_weight, words_weight}
 
 -- ---- the pipeline
 
@@ -53,12 +54,6 @@ pipeline = record {
 -- a text and the number
 abbrev pub paired : List ℕ → Value
 paired t = value.Pair (value.Words t) (value.Num 7)
-
-words_weight : (t : List ℕ) → weight_of (value.Words t) ≡ length t + 1
-words_weight t = ap weight_of (sym (value.rolls-Words t)) ∙ fold-roll-Value ℕ ℕ outcome_weight_step weight_step (Value-F.Words t)
-
-num_weight : (n : ℕ) → weight_of (value.Num n) ≡ 1
-num_weight n = ap weight_of (sym (value.rolls-Num n)) ∙ fold-roll-Value ℕ ℕ outcome_weight_step weight_step (Value-F.Num n)
 
 paired_weight : (t : List ℕ) → weight_of (paired t) ≡ 1 + ((length t + 1) + 1)
 paired_weight t = ap weight_of (sym (value.rolls-Pair (value.Words t) (value.Num 7))) ∙ fold-roll-Value ℕ ℕ outcome_weight_step weight_step (Value-F.Pair (value.Words t) (value.Num 7))

@@ -12,10 +12,7 @@ use Rattle.session_rules.specs.Sessions.{Script, Reaches, Halts, Finishes}
 use Rattle.session_rules.specs.Steps.{Counting}
 use Rattle.session_rules.specs.Transcripts.{End, Quits, Limit, Transcript, before, continued, ended, goes_on, is_quit, line_part, lines_from, next_line}
 use Rattle.session_rules.proofs.Doing.{did_more, did_none, did_stops, nothing_done, stopped_longer, then_stopped}
-use Rattle.session_rules.proofs.Growing.{exits_append}
-
-exits_more : (xs ys : List Output) (more : List Exit) → exits (xs ++ ys) ++ more ≡ exits xs ++ (exits ys ++ more)
-exits_more xs ys more = ap (λ (l : List Exit). l ++ more) (exits_append xs ys) ∙ append_assoc (exits xs) (exits ys) more
+use Rattle.session_rules.proofs.Growing.{exits_append, exits_more}
 
 before_before : (xs ys : List Output) (t : Transcript) → before xs (before ys t) ≡ before (xs ++ ys) t
 before_before xs ys t = ap (λ (l : List Output). record { outputs = l; end = t.end }) (sym (append_assoc xs ys t.outputs))

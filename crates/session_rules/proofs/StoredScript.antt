@@ -37,7 +37,8 @@ use Rattle.session_rules.specs.Steps.{Counting}
 use Rattle.session_rules.specs.StoreTexts.{count_line, result_line, results_text, stats_text}
 use Rattle.session_rules.specs.Transcripts.{session_on}
 use Rattle.session_rules.proofs.Going.{nothing_in}
-use Rattle.session_rules.proofs.Texts.{printed_words, words_weight}
+use Rattle.session_rules.proofs.Texts.{printed_words}
+use Rattle.value_core.proofs.Layers.{words_weight}
 use Rattle.session_rules.proofs.TwoBuildsScript.{all_outputs}
 use Rattle.session_rules.proofs.TwoBuildsSteps.{one, two}
 

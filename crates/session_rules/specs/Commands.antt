@@ -77,12 +77,13 @@ on_store store plan = with_tables (loaded_of store) (λ tables. by_row (first_ba
 
 -- ---- `run`
 
--- the line and the status of an end
+-- the line of an end
 abbrev pub end_outputs : End → List Output
 end_outputs Quits = []
 end_outputs Limit = Print limit_line ∷ []
 end_outputs (Bad table n) = Print (bad_row_line (table, n)) ∷ []
 
+-- the status of an end
 abbrev pub end_status : End → ℕ
 end_status Quits = 0
 end_status Limit = 8
