@@ -1,0 +1,182 @@
+-- What is known of a keeper, from what a call says of the connection.
+use Rattle.std.proofs.Common.{◌≡◌, inl, inr, Bool, true, false, if◌then◌else◌, Some, None, IfSome, IsTrue, Result, Ok, Err, arith, refl, sym, ap, subst, ◌∙◌}
+use Rattle.sqlite.specs.Tree.{Trees}
+use Rattle.sqlite.specs.Store.{Ghosts}
+use Rattle.sqlite.specs.View.{doubt}
+use Rattle.sqlite.specs.Effect.{Database}
+use Rattle.sqlite.specs.Held.{Held, state}
+use Rattle.sqlite.specs.State.{State, HasCleanDisk, Survives}
+use Rattle.sqlite_trees.proofs.Doubt.{no_doubt}
+use Rattle.core_rules.specs.declared.done.Delta.{Delta}
+use Rattle.keeper_core.specs.declared.keeper.KeepFault.{KeepFault}
+use Rattle.keeper_core.specs.declared.keeper.KeepFault.TheVariants as keep
+use Rattle.keeper_core.specs.declared.stored.Stored.{Stored}
+use Rattle.keeper_core.specs.declared.stored.Stored.TheVariants.{Current}
+use Rattle.keeper_core.specs.Commits.{with_delta}
+use Rattle.keeper_core.specs.Contents.{Contents}
+use Rattle.keeper_core.specs.EitherSchema.{committed, is_old}
+use Rattle.keeper_core.specs.KeeperCalls as calls
+use Rattle.sql_keeper.specs.Kept.{Kept, MayLeave, known_of, tables_of}
+use Rattle.sql_keeper.specs.Rows.{contents}
+use Rattle.sql_keeper.specs.inside.Databases.{IsKeeperDatabase}
+use Rattle.sql_keeper.specs.inside.Keeping.{IsKept, unmigrated}
+use Rattle.sql_keeper.specs.inside.Steps.{HasCommitted, LeavesEither}
+
+-- what the laws of the store say
+pub record IsLawful (s : State) : Type 0 where
+  pub clean : IsTrue s.is_open → HasCleanDisk s
+  pub sure : IsTrue s.is_open → (db : Trees) → s.may_leave db → db ≡ s.committed.trees
+  pub stays : IsTrue s.is_open → s.may_leave s.committed.trees
+
+is_clean : (clean is_open : Bool) → (clean ≡ false → is_open ≡ false) → IsTrue is_open → doubt clean ≡ 0
+is_clean true is_open shut opened = no_doubt true refl
+is_clean false is_open shut opened = absurd (let e = shut refl in cc)
+
+pub lawful : {S : Type 0} (g : Ghosts S) (h : Held S)
+    → ((g.view h.store).is_clean ≡ false → (g.view h.store).is_open ≡ false)
+    → ((db : Trees) → IsTrue (g.view h.store).is_open → g.recovers h.store db → db ≡ (g.view h.store).committed)
+    → (IsTrue (g.view h.store).is_open → g.recovers h.store (g.view h.store).committed) → IsLawful (state g h)
+lawful g h shut settled stays = record { clean = is_clean (g.view h.store).is_clean (g.view h.store).is_open shut; sure = λ o db r. settled db o r; stays = stays }
+
+tables_some : (s : State) → IsTrue s.is_open → tables_of s ≡ Some (Current (contents s.committed.trees))
+tables_some s o = rw o
+
+-- each fact on the tables has to hold if the connection is open
+pub when_known : (s : State) (P : Stored → Type 0) → (IsTrue s.is_open → P (Current (contents s.committed.trees))) → IfSome (tables_of s) P
+when_known s P h = go s.is_open h
+  where
+    go : (b : Bool) → (b ≡ true → P (Current (contents s.committed.trees))) → IfSome (if b then Some (Current (contents s.committed.trees)) else None) P
+    go true k = k refl
+    go false k = tt
+
+module _ {S : Type 0} (g : Ghosts S) (old new : Kept S) (law : IsLawful (state g new.conn)) where
+  abbrev was : State
+  was = state g old.conn
+
+  abbrev is : State
+  is = state g new.conn
+
+  pub becomes : (d : Delta) → IsKept g old → (HasCleanDisk is → HasCleanDisk was) → (HasCleanDisk is → HasCommitted (with_delta d) was is) → calls.BecomesBy (committed d) (known_of g old) (known_of g new)
+  becomes d kept before h = when_known is _ (λ opened.
+      let clean = law.clean opened in
+      let it = h clean in
+      let same = kept.settled (before clean) it.was_open in (
+        Current (contents was.committed.trees),
+        tables_some was it.was_open,
+        ap (λ (b : Database). Current (contents b.trees)) it.committed ∙ ap Current it.contents ∙ ap (λ (b : Database). Current (with_delta d (contents b.trees))) same,
+      ))
+
+  pub stays_known : (HasCleanDisk is → IsTrue is.is_open → IsTrue was.is_open × (is.committed ≡ was.committed)) → calls.Stays (known_of g old) (known_of g new)
+  stays_known h = when_known is _ (λ opened.
+      let it = h (law.clean opened) opened in tables_some was it.0 ∙ ap (λ (b : Database). Some (Current (contents b.trees))) (sym it.1))
+
+  -- a stop leaves just the tables
+  pub is_sure : IsKept g new → IsLawful (state g new.last) → calls.IsSure (known_of g new)
+  is_sure kept last = when_known is _ (λ opened x.
+      let it = kept.last opened in (
+        λ left. left.is ∙ ap (λ (t : Trees). Current (contents t)) (last.sure it.0 left.db left.left ∙ ap (λ (b : Database). b.trees) it.1),
+        λ e. record {
+          clean = last.clean it.0;
+          db = (state g new.last).committed.trees;
+          left = last.stays it.0;
+          is = e ∙ ap (λ (b : Database). Current (contents b.trees)) (sym it.1);
+        },
+      ))
+
+  -- the last commit is the one that was in progress
+  pub either : (d : Delta) → IsKept g old → new.last ≡ new.conn → (HasCleanDisk is → HasCleanDisk was) → (HasCleanDisk is → LeavesEither (with_delta d) was is) → calls.LeavesEither (committed d) (known_of g old) (known_of g new)
+  either d kept last before h x given =
+      let left : MayLeave is x = subst (λ (c : Held S). MayLeave (state g c) x) last given in
+      elim (h left.clean left.db left.left) [
+        | inl same ↦ inl (subst (MayLeave (state g old.last)) (sym left.is) (kept.covered (before left.clean) left.db same))
+        | inr after ↦
+            let settled = kept.settled (before left.clean) after.0 in
+            inr (Current (contents was.committed.trees), tables_some was after.0, left.is ∙ ap Current after.1 ∙ ap (λ (b : Database). Current (with_delta d (contents b.trees))) settled)
+      ]
+
+  -- the last commit is the one before
+  pub same_last : new.last ≡ old.last → calls.LeavesSame (known_of g old) (known_of g new)
+  same_last last x = (λ left. subst (λ (c : Held S). MayLeave (state g c) x) last left, λ left. subst (λ (c : Held S). MayLeave (state g c) x) (sym last) left)
+
+module _ {S : Type 0} (g : Ghosts S) (old new : Kept S) where
+  -- out of memory, nothing more may be left
+  pub kept_spared : new.last ≡ old.last → IsKept g old → IsLawful (state g new.conn) → new.conn.in_transaction ≡ false
+      → (HasCleanDisk (state g new.conn) → HasCleanDisk (state g old.conn))
+      → (HasCleanDisk (state g new.conn) → IsTrue (state g new.conn).is_open
+      → IsTrue (state g old.conn).is_open × ((state g new.conn).now ≡ (state g old.conn).committed) × ((state g new.conn).committed ≡ (state g old.conn).committed))
+      → (HasCleanDisk (state g new.conn) → (db : Trees) → (state g new.conn).may_leave db → (state g old.conn).may_leave db) → IsKept g new
+  kept_spared last kept law idle before same spared = record {
+    idle = idle;
+    database = λ clean opened. let it = same clean opened in subst IsKeeperDatabase (kept.settled (before clean) it.0 ∙ sym it.1) (kept.database (before clean) it.0);
+    settled = λ clean opened. let it = same clean opened in it.1 ∙ sym it.2;
+    last = λ opened.
+        let it = same (law.clean opened) opened in
+        let was = kept.last it.0 in
+        subst (λ (c : Held S). IsTrue (state g c).is_open × ((state g c).committed ≡ (state g new.conn).committed)) (sym last) (was.0, was.1 ∙ sym it.2);
+    covered = λ clean db left. subst (λ (c : Held S). MayLeave (state g c) (Current (contents db))) (sym last) (kept.covered (before clean) db (spared clean db left));
+  }
+
+  -- after a commit the connection is as the last commit left it
+  pub kept_written : {change : Contents → Contents} → IsLawful (state g new.conn) → new.last ≡ new.conn → new.conn.in_transaction ≡ false
+      → (HasCleanDisk (state g new.conn) → HasCommitted change (state g old.conn) (state g new.conn)) → IsKept g new
+  kept_written law last idle h = record {
+    idle = idle;
+    database = λ clean opened. (h clean).database;
+    settled = λ clean opened. sym (h clean).committed;
+    last = λ opened. subst (λ (c : Held S). IsTrue (state g c).is_open × ((state g c).committed ≡ (state g new.conn).committed)) (sym last) (opened, refl);
+    covered = λ clean db left. subst (λ (c : Held S). MayLeave (state g c) (Current (contents db))) (sym last) (record { clean = clean; db = db; left = left; is = refl });
+  }
+
+-- tables of the first schema are never kept
+none_old : (s : State) (P : Stored → Type 0) → IfSome (tables_of s) (λ t. IsTrue (is_old t) → P t)
+none_old s P = when_known s _ (λ opened old. absurd (let e : false ≡ true = old in cc))
+
+pub refuses_none : {S T : Type 0} (g : Ghosts S) (old : Kept S) (now : calls.Known) (r : Result T KeepFault) → calls.RefusesOld (known_of g old) now r
+refuses_none g old now r = none_old (state g old.conn) (λ _. (r ≡ Err keep.Fault) × calls.Stays (known_of g old) now)
+
+-- ---- after a call that only read
+
+-- what such a call says of the connection
+pub record Reads (old new : State) : Type 0 where
+  pub same : HasCleanDisk new → IsTrue new.is_open → IsTrue old.is_open × (new.now ≡ old.committed) × (new.committed ≡ old.committed)
+  pub survives : Survives old new (λ _. ⊥)
+
+module _ {S : Type 0} (g : Ghosts S) (old new : Kept S) (last : new.last ≡ old.last) (kept : IsKept g old) (law : IsLawful (state g new.conn)) (reads : Reads (state g old.conn) (state g new.conn)) where
+  before : HasCleanDisk (state g new.conn) → HasCleanDisk (state g old.conn)
+  before clean = let s = reads.survives.clean in omega arith
+
+  pub kept_still : new.conn.in_transaction ≡ false → IsKept g new
+  kept_still idle = kept_spared g old new last kept law idle before reads.same
+      (λ clean db left. elim (reads.survives.crash clean db left) [ inl was ↦ was | inr none ↦ absurd none ])
+
+  pub knows_same : calls.Stays (known_of g old) (known_of g new)
+  knows_same = stays_known g old new law (λ clean opened. let it = reads.same clean opened in (it.0, it.2))
+
+  pub no_more : calls.LeavesNoMore (known_of g old) (known_of g new)
+  no_more x left = (same_last g old new law last x).0 left
+
+  pub reads_ok : {T : Type 0} (value : T) → new.conn.in_transaction ≡ false → IsLawful (state g new.last) → calls.ReadsOnly (known_of g old) (known_of g new) (Ok value)
+  reads_ok value idle other = record { same = knows_same; no_more = no_more; sure = is_sure g old new law (kept_still idle) other; unsure = tt }
+
+  pub reads_err : {T : Type 0} (e : KeepFault) → calls.ReadsOnly {T = T} (known_of g old) (known_of g new) (Err e)
+  reads_err e = record { same = knows_same; no_more = no_more; sure = tt; unsure = same_last g old new law last }
+
+  -- the tables are those before, and are as they were read
+  pub knows_that : (P : Stored → Type 0) → (HasCleanDisk (state g new.conn) → P (Current (contents (state g old.conn).now.trees))) → IfSome (tables_of (state g new.conn)) (λ s. (tables_of (state g old.conn) ≡ Some s) × P s)
+  knows_that P h = when_known (state g new.conn) _ (λ opened.
+      let clean = law.clean opened in
+      let it = reads.same clean opened in
+      let same : (state g old.conn).committed ≡ (state g new.conn).committed = sym it.2 in (
+        tables_some (state g old.conn) it.0 ∙ ap (λ (d : Database). Some (Current (contents d.trees))) same,
+        subst (λ (d : Database). P (Current (contents d.trees))) (kept.settled (before clean) it.0 ∙ same) (h clean),
+      ))
+
+  pub shows : (P : Stored → Type 0) → (HasCleanDisk (state g new.conn) → P (Current (contents (state g old.conn).now.trees))) → IfSome (tables_of (state g new.conn)) P
+  shows P h = when_known (state g new.conn) _ (λ opened.
+      let clean = law.clean opened in
+      let it = reads.same clean opened in
+      subst (λ (d : Database). P (Current (contents d.trees))) (kept.settled (before clean) it.0 ∙ sym it.2) (h clean))
+
+  pub migrates_err : (e : KeepFault) → calls.Migrates (known_of g old) (known_of g new) (Err (unmigrated e))
+  migrates_err keep.Fault = inl knows_same
+  migrates_err keep.NoMemory = (knows_same, same_last g old new law last)

@@ -1,0 +1,10 @@
+pub mod Schemas
+pub mod Databases
+pub mod Steps
+pub mod ShownRows
+pub mod Borrowed
+pub mod Keeping
+pub mod Indexes
+pub mod Fresh
+pub mod Adopting
+pub mod Calls

@@ -1,0 +1,295 @@
+//! Whether a schema is the one that a keeper makes.
+ghost use Rattle.std.specs.Prelude.{◌≡◌, IsTrue, Some, None, [], ◌∷◌, pos};
+ghost use Rattle.sqlite_catalog.specs.Listing.{automatic};
+ghost use Rattle.sqlite_value.specs.Keys.{plain};
+ghost use Rattle.sql_keeper.specs.inside.Schemas.{column_of, keeper_schema, no_schema};
+ghost use Rattle.sql_keeper.specs.inside.Schemas.{number_columns, the_cache, value_columns};
+ghost use Rattle.sql_keeper.specs.inside.Indexes.{index_of};
+ghost use Rattle.sql_keeper.specs.inside.Schemas.{the_inputs, the_logs, the_meta};
+
+use sqlite_schema::code::{Op, Terms};
+use sqlite_schema::schema::{Column, Index, Kind, Schema, Stamps, Table};
+use sqlite_sql::ops::{BinaryOp, CompareOp};
+use sqlite_value::keys::{Collation, Order};
+use sqlite_value::value::Value;
+
+fn is_name(name: &[u8], wanted: &[u8]) -> bool
+    ensures { IsTrue result → name.now ≡ wanted.now }
+{
+    name == wanted
+}
+
+fn are_places(places: &[usize], wanted: &[usize]) -> bool
+    ensures { IsTrue result → places.now ≡ wanted.now }
+{
+    places == wanted
+}
+
+fn is_null(value: &Value) -> bool
+    ensures { IsTrue result → value.now ≡ Value.Null }
+{
+    matches!(value, Value::Null)
+}
+
+fn is_one(value: &Value) -> bool
+    ensures { IsTrue result → value.now ≡ Value.Int (pos 1) }
+{
+    matches!(value, Value::Int(1))
+}
+
+fn is_equality(op: &BinaryOp) -> bool
+    ensures { IsTrue result → op.now ≡ BinaryOp.Compare CompareOp.Eq Collation.Binary }
+{
+    matches!(op, BinaryOp::Compare(CompareOp::Eq, Collation::Binary))
+}
+
+/// The text `id = 1`.
+fn is_meta_check(checks: &Terms) -> bool
+    ensures { IsTrue result → checks.now ≡ the_meta.checks }
+{
+    let [id, number, test] = checks.nodes.as_slice() else {
+        return false;
+    };
+    let Op::Column(slot, at) = id else {
+        return false;
+    };
+    let Op::Literal(value) = number else {
+        return false;
+    };
+    let Op::Binary(op, first, second) = test else {
+        return false;
+    };
+    *slot == 1
+        && *at == 0
+        && is_one(value)
+        && is_equality(op)
+        && *first == 0
+        && *second == 1
+        && are_places(checks.roots.as_slice(), &[2])
+}
+
+/// A STRICT column that is NOT NULL.
+fn is_column(column: &Column, name: &[u8], kind: Kind) -> bool
+    ensures { IsTrue result → column.now ≡ column_of name.now kind }
+{
+    is_name(column.name.as_slice(), name)
+        && column.kind == kind
+        && column.is_strict
+        && column.not_null
+        && is_null(&column.default)
+        && column.collation == Collation::Binary
+}
+
+fn are_meta_columns(columns: &[Column]) -> bool
+    ensures { IsTrue result → columns.now ≡ the_meta.columns }
+{
+    let [id, format, next_job] = columns else {
+        return false;
+    };
+    is_column(id, b"id", Kind::Integer)
+        && is_column(format, b"format", Kind::Integer)
+        && is_column(next_job, b"next_job", Kind::Integer)
+}
+
+fn are_input_columns(columns: &[Column]) -> bool
+    ensures { IsTrue result → columns.now ≡ the_inputs.columns }
+{
+    let [name, literal] = columns else {
+        return false;
+    };
+    is_column(name, b"name", Kind::Text) && is_column(literal, b"literal", Kind::Text)
+}
+
+fn are_number_columns(columns: &[Column]) -> bool
+    ensures { IsTrue result → columns.now ≡ number_columns }
+{
+    let [finished, job, rebuild] = columns else {
+        return false;
+    };
+    is_column(finished, b"finished", Kind::Integer)
+        && is_column(job, b"job", Kind::Integer)
+        && is_column(rebuild, b"rebuild", Kind::Integer)
+}
+
+fn are_value_columns(columns: &[Column]) -> bool
+    ensures { IsTrue result → columns.now ≡ value_columns }
+{
+    let [cvalue, fine, result, numbers @ ..] = columns else {
+        return false;
+    };
+    is_column(cvalue, b"cvalue", Kind::Text)
+        && is_column(fine, b"fine", Kind::Integer)
+        && is_column(result, b"result", Kind::Text)
+        && are_number_columns(numbers)
+}
+
+fn are_cache_columns(columns: &[Column]) -> bool
+    ensures { IsTrue result → columns.now ≡ the_cache.columns }
+{
+    let [op, khash, ckey, values @ ..] = columns else {
+        return false;
+    };
+    is_column(op, b"op", Kind::Text)
+        && is_column(khash, b"khash", Kind::Blob)
+        && is_column(ckey, b"ckey", Kind::Text)
+        && are_value_columns(values)
+}
+
+fn are_log_columns(columns: &[Column]) -> bool
+    ensures { IsTrue result → columns.now ≡ the_logs.columns }
+{
+    let [job, output] = columns else {
+        return false;
+    };
+    is_column(job, b"job", Kind::Integer) && is_column(output, b"output", Kind::Blob)
+}
+
+fn has_no_stamps(stamps: &Stamps) -> bool
+    ensures { IsTrue result → stamps.now ≡ the_meta.stamps }
+{
+    stamps.places.is_empty() && stamps.terms.roots.is_empty() && stamps.formats.is_empty()
+}
+
+/// Whether nothing more is asked of a row.
+fn is_simple(table: &Table) -> bool
+    ensures references { IsTrue result → table.now.references ≡ [] }
+    ensures computed { IsTrue result → table.now.computed ≡ [] }
+    ensures stamps { IsTrue result → table.now.stamps ≡ the_meta.stamps }
+    ensures counted { IsTrue result → table.now.is_counted ≡ the_meta.is_counted }
+{
+    table.references.is_empty()
+        && table.computed.is_empty()
+        && has_no_stamps(&table.stamps)
+        && !table.is_counted
+}
+
+fn is_meta(table: &Table) -> bool
+    ensures { IsTrue result → table.now ≡ the_meta }
+{
+    is_name(table.name.as_slice(), b"meta")
+        && table.tree == 0
+        && are_meta_columns(table.columns.as_slice())
+        && table.key == Some(0)
+        && are_places(table.primary.as_slice(), &[0])
+        && table.uniques.is_empty()
+        && table.orders.is_empty()
+        && is_meta_check(&table.checks)
+        && is_simple(table)
+}
+
+fn is_inputs(table: &Table) -> bool
+    ensures { IsTrue result → table.now ≡ the_inputs }
+{
+    let [unique] = table.uniques.as_slice() else {
+        return false;
+    };
+    let [order] = table.orders.as_slice() else {
+        return false;
+    };
+    is_name(table.name.as_slice(), b"inputs")
+        && table.tree == 1
+        && are_input_columns(table.columns.as_slice())
+        && table.key.is_none()
+        && are_places(table.primary.as_slice(), &[1])
+        && are_places(unique.as_slice(), &[1])
+        && order.digits == 0
+        && table.checks.roots.is_empty()
+        && is_simple(table)
+}
+
+fn is_cache(table: &Table) -> bool
+    ensures { IsTrue result → table.now ≡ the_cache }
+{
+    let [unique] = table.uniques.as_slice() else {
+        return false;
+    };
+    let [order] = table.orders.as_slice() else {
+        return false;
+    };
+    is_name(table.name.as_slice(), b"cache2")
+        && table.tree == 3
+        && are_cache_columns(table.columns.as_slice())
+        && table.key.is_none()
+        && are_places(table.primary.as_slice(), &[1, 2, 3])
+        && are_places(unique.as_slice(), &[1, 2, 3])
+        && order.digits == 0
+        && table.checks.roots.is_empty()
+        && is_simple(table)
+}
+
+fn is_logs(table: &Table) -> bool
+    ensures { IsTrue result → table.now ≡ the_logs }
+{
+    is_name(table.name.as_slice(), b"logs")
+        && table.tree == 5
+        && are_log_columns(table.columns.as_slice())
+        && table.key == Some(0)
+        && are_places(table.primary.as_slice(), &[0])
+        && table.uniques.is_empty()
+        && table.orders.is_empty()
+        && table.checks.roots.is_empty()
+        && is_simple(table)
+}
+
+fn is_plain(order: Order) -> bool
+    ensures { IsTrue result → order ≡ plain }
+{
+    order.digits == 0
+}
+
+/// The index that the engine makes for the only key of a table.
+fn is_index(index: &Index, name: &[u8], table: u32, places: &[usize]) -> bool
+    ensures { IsTrue result → index.now ≡ index_of name.now table index.now.tree places.now }
+{
+    is_name(index.name.as_slice(), name)
+        && index.table == table
+        && are_places(index.columns.as_slice(), places)
+        && is_plain(index.order)
+        && index.is_unique
+}
+
+fn is_input_index(index: &Index) -> bool
+    ensures { IsTrue result → index.now ≡ automatic the_inputs 0 (1 ∷ []) 2 }
+{
+    index.tree == 2 && is_index(index, b"sqlite_autoindex_inputs_1", 1, &[1])
+}
+
+fn is_cache_index(index: &Index) -> bool
+    ensures { IsTrue result → index.now ≡ automatic the_cache 0 (1 ∷ 2 ∷ 3 ∷ []) 4 }
+{
+    index.tree == 4 && is_index(index, b"sqlite_autoindex_cache2_1", 3, &[1, 2, 3])
+}
+
+fn are_tables(tables: &[Table]) -> bool
+    ensures { IsTrue result → tables.now ≡ keeper_schema.tables }
+{
+    let [meta, inputs, cache, logs] = tables else {
+        return false;
+    };
+    is_meta(meta) && is_inputs(inputs) && is_cache(cache) && is_logs(logs)
+}
+
+fn are_indexes(indexes: &[Index]) -> bool
+    ensures { IsTrue result → indexes.now ≡ keeper_schema.indexes }
+{
+    let [inputs, cache] = indexes else {
+        return false;
+    };
+    is_input_index(inputs) && is_cache_index(cache)
+}
+
+/// Whether a schema has the tables that a keeper makes, and nothing else.
+pub(crate) fn is_kept(schema: &Schema) -> bool
+    ensures { IsTrue result → schema.now ≡ keeper_schema }
+{
+    are_tables(schema.tables.as_slice())
+        && are_indexes(schema.indexes.as_slice())
+        && schema.views.is_empty()
+}
+
+/// Whether a schema has no table, and nothing else.
+pub(crate) fn is_blank(schema: &Schema) -> bool
+    ensures { IsTrue result → schema.now ≡ no_schema }
+{
+    schema.tables.is_empty() && schema.indexes.is_empty() && schema.views.is_empty()
+}

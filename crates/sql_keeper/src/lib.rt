@@ -1,0 +1,19 @@
+//! A keeper of the tables over a database.
+//!
+//! `keeper` has the keeper, over a connection that `adopting` opens anew: `known` compares its schema,
+//! and `making` makes the tables of a store that has none. `commits` makes a delta in one transaction
+//! of the statements of `statements`; `reads` reads the tables, whose rows `columns` takes apart.
+//! `opening` is the keeper over a file.
+#![tactic(auto)]
+
+mod adopting;
+mod columns;
+mod commits;
+mod keeper;
+mod known;
+mod making;
+mod opening;
+mod reads;
+mod statements;
+
+pub use keeper::SqlKeeper;
