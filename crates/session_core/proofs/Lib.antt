@@ -1,0 +1,11 @@
+pub mod Still
+pub mod Events
+pub mod Played
+pub mod Notes
+pub mod Answered
+pub mod Caused
+pub mod Playing
+pub mod OrderWords
+pub mod OrderRuns
+pub mod OrderRounds
+pub mod Picking

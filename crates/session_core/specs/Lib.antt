@@ -1,0 +1,5 @@
+pub mod Answers
+pub mod Doing
+pub mod Orders
+pub mod Printing
+pub mod inside
