@@ -1,6 +1,6 @@
 -- Parts that are played one after the other.
 use Rattle.std.proofs.Common.{◌≡◌, ◌≢◌, ℕ, List, [], ◌∷◌, ◌++◌, refl, sym, ap, subst, ◌∙◌}
-use Rattle.std.specs.Prelude.{IfSome}
+use Rattle.std.specs.Prelude.{IfSome, IsErrAnd}
 use Rattle.std.specs.declared.option.Option.{Option}
 use Rattle.std.specs.declared.option.Option.TheVariants.{None, Some}
 use Rattle.std.specs.declared.result.Result.{Result}
@@ -21,6 +21,11 @@ use Rattle.session_core.proofs.Played.{at}
 -- a part stopped from a scene, if it is known
 abbrev pub StopsFrom : Stop → Part → Option Scene → Outside → Outside → Type 0
 StopsFrom z part o e e' = IfSome o (λ s. Stops z part s e e')
+
+-- a stop that is passed on
+pub passed_on : {T : Type 0} (P : Result T Stop → Type 0) (result : Result T Stop) (z : Stop) → IsErrAnd result (λ e. e ≡ z) → P (Err z) → P result
+passed_on P (Ok x) z is p = absurd is
+passed_on P (Err y) z is p = subst (λ (s : Stop). P (Err s)) (sym is) p
 
 -- ---- one part and then another
 

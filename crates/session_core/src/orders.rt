@@ -37,10 +37,8 @@ impl<K: Keeper, G: Ledger> Session<K, G> {
             Causes (count self.old ends.old) (count self.new ends.new) result }
     {
         self.last = ends.clock.read_ms();
-        match self.make_step(ends, What::Finish { job, exit }) {
-            Err(stop) => Err(stop),
-            Ok(_note) => Ok(()),
-        }
+        let _note = self.make_step(ends, What::Finish { job, exit })?;
+        Ok(())
     }
 
     /// Runs an order to its end.
@@ -56,10 +54,8 @@ impl<K: Keeper, G: Ledger> Session<K, G> {
         ensures cause { let count = counts K.faults O.faults F.faults in
             Causes (count self.old ends.old) (count self.new ends.new) result }
     {
-        match ends.launcher.run(self.alloc, order) {
-            Err(_) => Err(Stop::NoMemory),
-            Ok(exit) => self.end_order(ends, order.job, exit),
-        }
+        let exit = ends.launcher.run(self.alloc, order)?;
+        self.end_order(ends, order.job, exit)
     }
 
     /// Runs what a note says that a worker took.
@@ -115,10 +111,8 @@ impl<K: Keeper, G: Ledger> Session<K, G> {
             Causes (count self.old ends.old) (count self.new ends.new) result }
     {
         engine_law(self.desk.engine());
-        match self.make_step(ends, What::Take(worker)) {
-            Err(stop) => Err(stop),
-            Ok(note) => self.run_taken(ends, &note),
-        }
+        let note = self.make_step(ends, What::Take(worker))?;
+        self.run_taken(ends, &note)
     }
 
     /// Says that orders are left for later, if a worker still has a pick.
@@ -152,10 +146,7 @@ impl<K: Keeper, G: Ledger> Session<K, G> {
             let Some(worker) = self.free_worker() else {
                 return Ok(());
             };
-            match self.one_order(ends, worker) {
-                Err(stop) => return Err(stop),
-                Ok(()) => {}
-            }
+            self.one_order(ends, worker)?;
             left -= 1;
         }
         self.pause(ends)
