@@ -3,8 +3,8 @@
 
 1,000 wanted triples with 1,000 live jobs, of which each is wanted: a settling with nothing to do, and
 one with a new triple. Takes and finishes over 100 and 10,000 queued jobs. The program of settling/ is
-built by `rt try`, which proves nothing and builds with checks; each time is the fastest of five, all in
-one run, and what counts are the ratios.
+built by `rt try`, which proves nothing and builds with checks; each time is the fastest of a hundred,
+all in one run, and what counts are the ratios.
 """
 import subprocess
 import tempfile
@@ -30,7 +30,7 @@ def main():
     with tempfile.TemporaryDirectory() as folder:
         took = times(folder)
     for what, micros in zip(WHAT, took):
-        print(f"{what}: {micros / 20:.0f} microseconds")
+        print(f"{what}: {micros} microseconds")
     print(f"nothing to do, to a sort: {took[1] / took[0]:.2f}")
     print(f"one new triple, to a sort: {took[2] / took[0]:.2f}")
     print(f"takes and finishes, 10,000 to 100 queued: {took[4] / took[3]:.2f}")
