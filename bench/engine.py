@@ -1,8 +1,8 @@
 #!/usr/bin/env python3
 """Measures events of an engine at 10 and at 1,000 nodes, and takes and finishes at 100 and at 10,000 queued jobs.
 
-The program of engine/ is built by `rt try`, which proves nothing and builds with checks; each time is the fastest of
-five, all in one run, and what counts are the ratios.
+The program of engine/ is built by `rt try`, which proves nothing and builds with checks; each time is the faster of
+two, all in one run, and what counts are the ratios.
 """
 import subprocess
 import tempfile
@@ -12,8 +12,8 @@ from running import laid_out
 BELOW = ["value_core", "op_keys", "term_core", "sched_rows", "fair_pool", "core_rules", "job_core", "pipe_text",
          "term_check", "engine_rules", "keeper_core", "io_ends", "scope_pool", "dep_index", "incr_eval", "engine_core"]
 WHAT = ["an input is set", "a job is confirmed", "a tick"]
-EVENTS = 100
-ORDERS = 50
+EVENTS = 20
+ORDERS = 5
 
 
 def times(folder):
