@@ -12,6 +12,7 @@ use Rattle.keeper_core.specs.Contents.{Contents, has_format, loaded, meta_rows}
 use Rattle.keeper_core.specs.Durables.{durable_of}
 use Rattle.keeper_core.specs.EitherSchema.{committed, loaded_of}
 use Rattle.keeper_core.specs.KeeperCalls.{BecomesBy, Known, LeavesEither, LeavesNoMore, LeavesSame, Stays}
+use Rattle.keeper_core.specs.Laws.{IsWellFormed}
 use Rattle.keeper_core.specs.WellFormed.{first_bad, is_meta, is_within}
 use Rattle.keeper_core.specs.declared.stored.Stored.{Stored}
 use Rattle.keeper_core.specs.declared.stored.Stored.TheVariants.{Current, Old}
@@ -20,7 +21,7 @@ use Rattle.keeper_core.specs.declared.tables.Table.TheVariants as table
 use Rattle.keeper_core.specs.declared.tables.Tables.{Tables}
 use Rattle.keeper_core.proofs.ChainLaws.{openings_are_held}
 use Rattle.engine_core.specs.Answers.{IsOpening}
-use Rattle.desk_core.specs.Desk.{HoldsCore, IsReadFrom, opened_tables, start_in, with_start}
+use Rattle.desk_core.specs.Desk.{HoldsCore, IsReadFrom, opened_by, opened_tables, start_in, with_start}
 
 -- ---- what may be known
 
@@ -87,18 +88,19 @@ read_from (Old o) t d e h is = absurd (old_read o.meta t (has_format (pos 2) o.m
 
 -- ---- the commit of an opening
 
-commit_by : (opens : Durable → Option CoreState) (d : Durable) (s : CoreState) (done : Done) (x : Stored) (c : Contents) → x ≡ Current c → d ≡ durable_in c → opens d ≡ Some s → done ≡ opening_reply s → committed done.delta x ≡ opened_tables opens x
-commit_by opens d s done x c is read opened reply =
+commit_by : (opens : Durable → Option CoreState) (d : Durable) (s : CoreState) (done : Done) (x : Stored) (c : Contents) → x ≡ Current c → IsWellFormed c → d ≡ durable_in c → opens d ≡ Some s → done ≡ opening_reply s → committed done.delta x ≡ opened_tables opens x
+commit_by opens d s done x c is well read opened reply =
     ap (committed done.delta) is
     ∙ ap (λ (r : Done). Current (with_delta r.delta c)) reply
     ∙ sym (ap (λ o. with_start o c) (ap opens (sym read) ∙ opened))
+    ∙ sym (ap (opened_by opens c) well)
     ∙ sym (ap (opened_tables opens) is)
 
 -- it is the change that an opening makes of what it was read from
 pub opening_commits : (opens : Durable → Option CoreState) (d : Durable) (s : CoreState) (done : Done) (k : Known) → IfSome k.tables (IsReadFrom d) → IsOpening (opens d) s done → AgreeOn (committed done.delta) (opened_tables opens) k
 opening_commits opens d s done k read o = each_some (λ (x : Stored). committed done.delta x ≡ opened_tables opens x) k.tables (λ x e.
     let r = at_some (IsReadFrom d) k.tables x read e in
-    commit_by opens d s done x r.contents r.is r.durable o.state o.reply)
+    commit_by opens d s done x r.contents r.is r.well_formed r.durable o.state o.reply)
 
 holds_by : (program : Program) (threshold : Option Level) (reading : ℕ) (d : Durable) (s : CoreState) (done : Done) (x y : Stored) → IsReadFrom d x → IsOpening (start program d threshold reading) s done → y ≡ committed done.delta x → HoldsCore s y
 holds_by program threshold reading d s done x y r o is =

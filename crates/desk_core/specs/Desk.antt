@@ -14,7 +14,7 @@ use Rattle.core_rules.specs.declared.events.Refusal.{Refusal}
 use Rattle.core_rules.specs.declared.events.Refusal.TheVariants as refusal
 use Rattle.keeper_core.specs.Chains.{HoldsState, durable_in}
 use Rattle.keeper_core.specs.Commits.{with_delta}
-use Rattle.keeper_core.specs.Contents.{Bytes, Contents}
+use Rattle.keeper_core.specs.Contents.{Bytes, Contents, loaded}
 use Rattle.keeper_core.specs.EitherSchema.{committed, loaded_of, log_of}
 use Rattle.keeper_core.specs.KeeperCalls.{BecomesBy, IsSure, Known, LeavesEither, LeavesNoMore, LeavesSame, Stays}
 use Rattle.keeper_core.specs.Laws.{IsWellFormed}
@@ -110,9 +110,14 @@ abbrev pub with_start : Option CoreState → Contents → Stored
 with_start None t = Current t
 with_start (Some s) t = Current (with_delta (opening_reply s).delta t)
 
+-- the same, by the first row that isn't well formed; tables with such a row have no opening
+abbrev pub opened_by : (Durable → Option CoreState) → Contents → Option (Table × ℕ) → Stored
+opened_by opens t (Some bad) = Current t
+opened_by opens t None = with_start (opens (durable_in t)) t
+
 -- tables after the commit of an opening on them; those of the first schema have none
 abbrev pub opened_tables : (Durable → Option CoreState) → Stored → Stored
-opened_tables opens (Current t) = with_start (opens (durable_in t)) t
+opened_tables opens (Current t) = opened_by opens t (first_bad (loaded t))
 opened_tables opens (Old t) = Old t
 
 -- what is opened was read from well-formed tables

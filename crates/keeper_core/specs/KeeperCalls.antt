@@ -1,5 +1,5 @@
 -- What contracts know of a keeper, and what a call makes of it.
-use Rattle.std.specs.Prelude.{◌≡◌, ◌⊎◌, ◌↔◌, ◌≤◌, ℕ, Bool, nat_lt, if◌then◌else◌, length, Option, Some, None, IfSome, IsTrue, Result, Ok, Err, IfOk, OnOk, OnErr}
+use Rattle.std.specs.Prelude.{◌≡◌, ◌⊎◌, ◌↔◌, ◌≤◌, ◌&&◌, ℕ, Bool, is_some, nat_lt, if◌then◌else◌, length, Option, Some, None, IfSome, IsTrue, Result, Ok, Err, IfOk, OnOk, OnErr}
 use Rattle.std.specs.FinMap.{entries}
 use Rattle.io_ends.specs.Causes.{HasCauseOf, Rose, raised}
 use Rattle.keeper_core.specs.declared.keeper.KeepFault.{KeepFault}
@@ -138,6 +138,14 @@ abbrev pub HoldsSame : Option (Bytes → Stored) → Option (Bytes → Stored) �
 HoldsSame None now = Unit {0}
 HoldsSame (Some old) None = ⊥
 HoldsSame (Some old) (Some now) = (path : Bytes) → now path ≡ old path
+
+-- a stop may leave nothing that it couldn't leave before
+abbrev pub LeavesNothingNew : (Stored → Type 0) → (Stored → Type 0) → Type 0
+LeavesNothingNew old new = (x : Stored) → new x → old x
+
+-- whether it is known what a stop may leave after a keeper was given back: if it was known, and the keeper's tables are
+abbrev pub knows_after : Bool → Known → Bool
+knows_after knows keeper = knows && is_some keeper.tables
 
 -- what a stop may leave is, if it is known, what it may leave of the keeper
 abbrev pub LeavesAsKeeper : Bool → (Stored → Type 0) → Known → Type 0

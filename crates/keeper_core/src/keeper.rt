@@ -1,9 +1,10 @@
 //! What keeps the tables between sessions.
-ghost use Rattle.std.specs.Prelude.{◌≡◌, ℕ, Bool, List, Option, IfOk, option_copied};
+ghost use Rattle.std.specs.Prelude.{◌≡◌, ℕ, Bool, List, Option, IfOk, OnErr, option_copied};
 ghost use Rattle.keeper_core.specs.Commits.{IsCommittable};
 ghost use Rattle.keeper_core.specs.EitherSchema.{committed, migrated};
 ghost use Rattle.keeper_core.specs.KeeperCalls.{Commits, HasCause, HoldsSame, Known, Loads};
-ghost use Rattle.keeper_core.specs.KeeperCalls.{LeavesAsKeeper, LeavesEither, MigrateCause};
+ghost use Rattle.keeper_core.specs.KeeperCalls.{LeavesAsKeeper, LeavesEither, LeavesNothingNew};
+ghost use Rattle.keeper_core.specs.KeeperCalls.{MigrateCause, knows_after};
 ghost use Rattle.keeper_core.specs.KeeperCalls.{Migrates, Opens, ReadsLog, ReadsOnly, RefusesOld};
 ghost use Rattle.keeper_core.specs.KeeperCalls.{counted};
 ghost use Rattle.keeper_core.specs.declared.stored.Stored.{Stored};
@@ -116,11 +117,12 @@ pub trait Keepers {
         ensures begins { IfOk result (λ k. Self.K.faults k ≡ 0) }
         ensures tables { Opens Self.K.known (held self.old) (option_copied path.entry) result }
         ensures same { HoldsSame (held self.old) (held self.new) }
+        ensures left { OnErr result (LeavesNothingNew (left self.old) (left self.new)) }
         ensures cause { HasCause (faults self.old) (faults self.new) result };
 
     /// Takes a keeper back.
     fn give_back(&mut self, keeper: Self::K)
         ensures left { LeavesAsKeeper (knows_left self.new) (left self.new) (Self.K.known keeper) }
-        ensures known { knows_left self.new ≡ knows_left self.old }
+        ensures known { knows_left self.new ≡ knows_after (knows_left self.old) (Self.K.known keeper) }
         ensures count { faults self.new ≡ counted (faults self.old) (Self.K.faults keeper) };
 }
