@@ -28,7 +28,7 @@ use Rattle.desk_core.specs.declared.faults.DeskFault.{DeskFault}
 use Rattle.desk_core.specs.declared.faults.DeskFault.TheVariants as fault
 use Rattle.report_text.specs.Lines.{refusal_words, refused_line, reply_text}
 use Rattle.session_rules.specs.Parts.{Part, Does, StopsIn}
-use Rattle.session_rules.specs.Steps.{event}
+use Rattle.session_rules.specs.Steps.{Counting, counted, event}
 use Rattle.session_rules.proofs.Composing.{not_begun}
 use Rattle.session_core.specs.declared.stop.Stop.{Stop}
 use Rattle.session_core.specs.declared.stop.Stop.TheVariants as stop
@@ -38,6 +38,7 @@ use Rattle.session_core.specs.Printing.{Writes}
 use Rattle.session_core.proofs.Events.{accepted, idle, idle_in_part, not_kept, out_of_memory, refused_in_part, refuses, shown_in_part, used, used_stops}
 use Rattle.session_core.proofs.Notes.{accepted_news, idle_news, idle_text}
 use Rattle.session_core.proofs.Played.{at, does_from, stops_from}
+use Rattle.session_core.proofs.Still.{none_written}
 
 -- what is seen by the state of a desk and the rest
 abbrev pub moment_of : {K : Type 0} → (K → Known) → ℕ → Option (List ℕ) → Option Contents → Option (List (Order × Exit)) → DeskState K → Option (List ℕ) → Moment
@@ -46,7 +47,7 @@ moment_of known last rs f ran d wr = record {
   outside = record { written = wr; ran = ran; keeper = known d.keeper };
 }
 
-module _ {K : Type 0} (known : K → Known) (faults : K → ℕ) (w : What) (last : ℕ) (rs : Option (List ℕ)) (f : Option Contents) (ran : Option (List (Order × Exit))) (d d' : DeskState K) (wr wr' : Option (List ℕ)) where
+module _ {K : Type 0} (known : K → Known) (faults : K → ℕ) (counting : Counting) (w : What) (last : ℕ) (rs : Option (List ℕ)) (f : Option Contents) (ran : Option (List (Order × Exit))) (d d' : DeskState K) (wr wr' : Option (List ℕ)) where
   abbrev c : CoreState
   c = d.engine.core
 
@@ -60,7 +61,11 @@ module _ {K : Type 0} (known : K → Known) (faults : K → ℕ) (w : What) (las
   answer = step c what_is
 
   abbrev part : Part
-  part = event None w
+  part = event counting w
+
+  -- the number of evaluations that it shows
+  abbrev pub shown : Option ℕ
+  shown = counted counting c what_is
 
   abbrev before : Moment
   before = moment_of known last rs f ran d wr
@@ -76,33 +81,46 @@ module _ {K : Type 0} (known : K → Known) (faults : K → ℕ) (w : What) (las
 
   module _ (done : Done) where
     made_accepted : {T : Type 0} (t : CoreState) (r : Done) (result : Result T Stop) → answer ≡ Accepted t r → (c' ≡ t) × (done ≡ r) → Stores known (Some r.delta) d.keeper d'.keeper →
-        Writes (reply_text c'.program done None) wr wr' result → Plays part before after result
+        Writes (reply_text c'.program done shown) wr wr' result → Plays part before after result
     made_accepted t r (Ok x) is same stored wrote = does_from part c c' last before.outside after.outside rs f (λ rd g.
-        accepted None w (at c last rd g) before.outside c' r (known d'.keeper) wr' (is ∙ ap (λ (u : CoreState). Accepted u r) (sym same.0)) stored.0 stored.1
-        (subst (λ (y : Done). Appends wr wr' (reply_text c'.program y None)) same.1 wrote))
+        accepted counting w (at c last rd g) before.outside c' r (known d'.keeper) wr' (is ∙ ap (λ (u : CoreState). Accepted u r) (sym same.0)) stored.0 stored.1
+        (subst (λ (y : Done). Appends wr wr' (reply_text c'.program y shown)) same.1 wrote))
     made_accepted t r (Err z) is same stored wrote = stops_other z wrote.1 (λ rd g.
-        shown_in_part None w (at c last rd g) before.outside c' r (known d'.keeper) wr' (is ∙ ap (λ (u : CoreState). Accepted u r) (sym same.0)) stored.0 stored.1
-        (subst (λ (y : Done). AppendsFront wr wr' (reply_text c'.program y None)) same.1 wrote.0))
+        shown_in_part counting w (at c last rd g) before.outside c' r (known d'.keeper) wr' (is ∙ ap (λ (u : CoreState). Accepted u r) (sym same.0)) stored.0 stored.1
+        (subst (λ (y : Done). AppendsFront wr wr' (reply_text c'.program y shown)) same.1 wrote.0))
 
-    no_text : (r : Done) → answer ≡ Idle r → done ≡ r → reply_text c'.program done None ≡ []
-    no_text r is same = idle_text c what_is c'.program done None (is ∙ ap Idle (sym same))
+    no_text : (r : Done) → answer ≡ Idle r → done ≡ r → reply_text c'.program done shown ≡ []
+    no_text r is same = idle_text c what_is c'.program done shown (is ∙ ap Idle (sym same))
 
     made_idle : {T : Type 0} (r : Done) (result : Result T Stop) → answer ≡ Idle r → (c' ≡ c) × (done ≡ r) → d'.keeper ≡ d.keeper →
-        Writes (reply_text c'.program done None) wr wr' result → Plays part before after result
+        Writes (reply_text c'.program done shown) wr wr' result → Plays part before after result
     made_idle r (Ok x) is same kept wrote = does_from part c c' last before.outside after.outside rs f (λ rd g.
         subst (λ (p : CoreState × K). Does part (at c last rd g) (at p.0 last rd g) before.outside (record before.outside { written = wr'; keeper = known p.1 })) (λ i. (sym same.0 i, sym kept i))
-        (idle None w (at c last rd g) before.outside r wr' is (subst (λ t. Appends wr wr' t) (no_text r is same.1) wrote)))
+        (idle counting w (at c last rd g) before.outside r wr' is (subst (λ t. Appends wr wr' t) (no_text r is same.1) wrote)))
     made_idle r (Err z) is same kept wrote = stops_other z wrote.1 (λ rd g.
         subst (λ (k : K). StopsIn part (at c last rd g) before.outside (record before.outside { written = wr'; keeper = known k })) (sym kept)
-        (idle_in_part None w (at c last rd g) before.outside r wr' is (subst (λ t. AppendsFront wr wr' t) (no_text r is same.1) wrote.0)))
+        (idle_in_part counting w (at c last rd g) before.outside r wr' is (subst (λ t. AppendsFront wr wr' t) (no_text r is same.1) wrote.0)))
 
-    made_by : {T : Type 0} (a : Answer) (result : Result T Stop) → answer ≡ a → Meets a c c' done → Stores known (stored_by a) d.keeper d'.keeper → Writes (reply_text c'.program done None) wr wr' result → Plays part before after result
+    made_by : {T : Type 0} (a : Answer) (result : Result T Stop) → answer ≡ a → Meets a c c' done → Stores known (stored_by a) d.keeper d'.keeper → Writes (reply_text c'.program done shown) wr wr' result → Plays part before after result
     made_by (Refused r) result is meets stored wrote = absurd meets
     made_by (Idle r) result is meets stored wrote = made_idle r result is meets stored wrote
     made_by (Accepted t r) result is meets stored wrote = made_accepted t r result is meets stored wrote
 
-    pub made_plays : {T : Type 0} (result : Result T Stop) → IsApplied known faults what_is d d' done → Writes (reply_text c'.program done None) wr wr' result → Plays part before after result
+    pub made_plays : {T : Type 0} (result : Result T Stop) → IsApplied known faults what_is d d' done → Writes (reply_text c'.program done shown) wr wr' result → Plays part before after result
     made_plays result applied wrote = made_by answer result refl applied.made applied.stored wrote
+
+    -- by another name of the number
+    pub counted_plays : {T : Type 0} (n : Option ℕ) (result : Result T Stop) → n ≡ shown → IsApplied known faults what_is d d' done → Writes (reply_text c'.program done n) wr wr' result → Plays part before after result
+    counted_plays n result is applied wrote = made_plays result applied (subst (λ (k : Option ℕ). Writes (reply_text c'.program done k) wr wr' result) is wrote)
+
+    -- nothing was written
+    pub unshown_stops : (z : Stop) → z ≡ stop.NoMemory → wr' ≡ wr → IsApplied known faults what_is d d' done → StopsPart z part before after
+    unshown_stops z only same applied =
+        let r : Result (Unit {0}) Stop = Err z in
+        made_plays r applied (
+          subst (λ (v : Option (List ℕ)). AppendsFront wr v (reply_text c'.program done shown)) (sym same) (none_written wr (reply_text c'.program done shown)),
+          λ is. let no : stop.NoMemory ≡ stop.LimitReached = sym only ∙ is in let z : ⊥ = cc in z,
+        )
 
     noted_by : (a : Answer) → answer ≡ a → Meets a c c' done → news done.note ≡ accepted_note a
     noted_by (Refused r) is meets = absurd meets
@@ -119,7 +137,7 @@ module _ {K : Type 0} (known : K → Known) (faults : K → ℕ) (w : What) (las
     pub refused_does : (why : List ℕ) → refusal_words r ≡ Some why → Appends wr wr' (refused_line why) → DoesPart part before after
     refused_does why words wrote = does_from part c c' last before.outside after.outside rs f (λ rd g.
         subst (λ (x : CoreState × K). Does part (at c last rd g) (at x.0 last rd g) before.outside (record before.outside { written = wr'; keeper = known x.1 })) (λ i. (sym refused.core i, sym refused.keeper i))
-        (refuses None w (at c last rd g) before.outside r why wr' refused.refused words wrote))
+        (refuses counting w (at c last rd g) before.outside r why wr' refused.refused words wrote))
 
     pub refused_note : accepted_note answer ≡ None
     refused_note = ap accepted_note refused.refused
@@ -127,10 +145,10 @@ module _ {K : Type 0} (known : K → Known) (faults : K → ℕ) (w : What) (las
     refused_stops_by : (z : Stop) (o : Option (List ℕ)) → refusal_words r ≡ o → IfSome o (λ why. AppendsFront wr wr' (refused_line why) × (z ≢ stop.LimitReached)) → (o ≡ None → wr' ≡ wr) → StopsPart z part before after
     refused_stops_by z (Some why) words line none = stops_other z line.1 (λ rd g.
         subst (λ (k : K). StopsIn part (at c last rd g) before.outside (record before.outside { written = wr'; keeper = known k })) (sym refused.keeper)
-        (refused_in_part None w (at c last rd g) before.outside r why wr' refused.refused words line.0))
+        (refused_in_part counting w (at c last rd g) before.outside r why wr' refused.refused words line.0))
     refused_stops_by z None words line none = stops_from part z c last before.outside after.outside rs f (λ rd g.
         subst (λ (x : K × Option (List ℕ)). Stops z part (at c last rd g) before.outside (record before.outside { written = x.1; keeper = known x.0 })) (λ i. (sym refused.keeper i, sym (none refl) i))
-        (record { stops = used_stops None w (at c last rd g) before.outside r refused.refused words; limit = λ is. used None w (at c last rd g) before.outside r refused.refused words }))
+        (record { stops = used_stops counting w (at c last rd g) before.outside r refused.refused words; limit = λ is. used counting w (at c last rd g) before.outside r refused.refused words }))
 
     -- its line was not written whole, or it has none
     pub refused_stops : (z : Stop) → IfSome (refusal_words r) (λ why. AppendsFront wr wr' (refused_line why) × (z ≢ stop.LimitReached)) → (refusal_words r ≡ None → wr' ≡ wr) → StopsPart z part before after
@@ -145,7 +163,7 @@ module _ {K : Type 0} (known : K → Known) (faults : K → ℕ) (w : What) (las
   unstored_by (Accepted t r) is u same =
       let delta : r.delta ≡ u.delta = let z : Some r.delta ≡ Some u.delta = same ∙ u.stores in cc in
       stops_from part stop.KeeperFault c last before.outside (record before.outside { keeper = known d'.keeper }) rs f (λ rd g. record {
-        stops = not_kept None w (at c last rd g) before.outside t r (known d'.keeper) is
+        stops = not_kept counting w (at c last rd g) before.outside t r (known d'.keeper) is
             (subst (λ (y : Delta). Stays (known d.keeper) (known d'.keeper) ⊎ BecomesBy (committed y) (known d.keeper) (known d'.keeper)) (sym delta) u.tables)
             (subst (λ (y : Delta). LeavesEither (committed y) (known d.keeper) (known d'.keeper)) (sym delta) u.stop);
         limit = λ is. let no : ⊥ = cc in absurd no;
@@ -157,7 +175,7 @@ module _ {K : Type 0} (known : K → Known) (faults : K → ℕ) (w : What) (las
 
   lost : IsOutOfMemory known faults d d' → StopsPart stop.NoMemory part before (moment_of known last rs f ran d' wr)
   lost u = stops_from part stop.NoMemory c last before.outside (record before.outside { keeper = known d'.keeper }) rs f (λ rd g. record {
-    stops = out_of_memory None w (at c last rd g) before.outside (known d'.keeper) u.tables u.stop;
+    stops = out_of_memory counting w (at c last rd g) before.outside (known d'.keeper) u.tables u.stop;
     limit = λ is. let no : ⊥ = cc in absurd no;
   })
 

@@ -22,12 +22,12 @@ abbrev pub counts_of : {K : Type 0} → (K → ℕ) → ℕ → DeskState K → 
 counts_of faults files d sink = record { sink = sink; keeper = faults d.keeper; files = files; closed = d.closed }
 
 -- a print's stop is one of the session
-print_caused : (z : Stop) (old new : Counts) → IsPrintStop z old.sink new.sink → IsCausedBy z old new
-print_caused stop.ReadFault old new p = absurd p
-print_caused stop.WriteFault old new p = p
-print_caused stop.KeeperFault old new p = absurd p
-print_caused stop.NoMemory old new p = tt
-print_caused stop.LimitReached old new p = tt
+print_caused : (z : Stop) (old new : Counts) → (new.sink ≡ old.sink → new ≡ old) → IsPrintStop z old.sink new.sink → IsCausedBy z old new
+print_caused stop.ReadFault old new all p = absurd p
+print_caused stop.WriteFault old new all p = p
+print_caused stop.KeeperFault old new all p = absurd p
+print_caused stop.NoMemory old new all p = tt
+print_caused stop.LimitReached old new all p = all p
 
 module _ {K : Type 0} (known : K → Known) (faults : K → ℕ) (e : Event) (files : ℕ) (d d' : DeskState K) (sink sink' : ℕ) where
   abbrev old : Counts
@@ -41,11 +41,11 @@ module _ {K : Type 0} (known : K → Known) (faults : K → ℕ) (e : Event) (fi
 
   pub made_causes : {T : Type 0} (done : Done) (result : Result T Stop) → IsApplied known faults e d d' done → PrintCause sink sink' result → Causes old new result
   made_causes done (Ok x) a p = same_counts a.count (a.still ∙ sym a.was) p
-  made_causes done (Err z) a p = λ _. print_caused z old new p
+  made_causes done (Err z) a p = λ _. print_caused z old new (same_counts a.count (a.still ∙ sym a.was)) p
 
   pub refused_causes : {T : Type 0} (r : Refusal) (result : Result T Stop) → IsRefused e d d' r → PrintCause sink sink' result → Causes old new result
   refused_causes r (Ok x) a p = same_counts (λ i. faults (a.keeper i)) (a.still ∙ sym a.was) p
-  refused_causes r (Err z) a p = λ _. print_caused z old new p
+  refused_causes r (Err z) a p = λ _. print_caused z old new (same_counts (λ i. faults (a.keeper i)) (a.still ∙ sym a.was)) p
 
   pub refused_caused : {T : Type 0} (x : DeskFault) (r : Refusal) (result : Result T Stop) → x ≡ fault.Refused r → IsNotApplied known faults e d d' x → PrintCause sink sink' result → Causes old new result
   refused_caused x r result is u p = refused_causes r result (subst (λ (y : DeskFault). IsNotApplied known faults e d d' y) is u) p
@@ -65,4 +65,4 @@ causes_after a b c result same x = subst (λ (y : Counts). Causes y c result) sa
 -- a call that only printed
 pub printed_causes : {T : Type 0} (a : Counts) (sink : ℕ) (result : Result T Stop) → PrintCause a.sink sink result → Causes a (record a { sink = sink }) result
 printed_causes a sink (Ok x) p = λ i. record a { sink = p i }
-printed_causes a sink (Err z) p = λ _. print_caused z a (record a { sink = sink }) p
+printed_causes a sink (Err z) p = λ _. print_caused z a (record a { sink = sink }) (λ same. λ i. record a { sink = same i }) p

@@ -1,7 +1,6 @@
 -- How a step of the desk and its lines do an event.
 use Rattle.std.proofs.Common.{◌≡◌, ℕ, List, [], ◌∷◌, refl, ap, ◌∙◌}
 use Rattle.std.specs.Prelude.{◌⊎◌}
-use Rattle.std.specs.Option.{option_map}
 use Rattle.std.specs.declared.option.Option.{Option}
 use Rattle.std.specs.declared.option.Option.TheVariants.{None, Some}
 use Rattle.std.specs.Io.KnownBytes.{Appends}
@@ -19,19 +18,23 @@ use Rattle.session_rules.specs.Outputs.{Output, Commit, Print, exits}
 use Rattle.session_rules.specs.Outside.{Outside, Stopped}
 use Rattle.session_rules.specs.Parts.{Turn, Does, StopsIn, UsesUp}
 use Rattle.session_rules.specs.Scenes.{Scene, expecting}
-use Rattle.session_rules.specs.Steps.{Counting, answer_to, answered, event, refused, step_outputs}
+use Rattle.session_rules.specs.Steps.{Counting, answer_to, answered, counted, event, event_at, refused, step_outputs}
 use Rattle.session_rules.proofs.Composing.{does_known}
 use Rattle.session_rules.proofs.Doing.{commit_failed, committed_so, did_more, did_none, did_stops, nothing_done, print_failed, printed, then_stopped}
 use Rattle.session_core.proofs.Still.{did_empty, front_none, still_stopped}
 
 module _ (counting : Counting) (w : What) (s : Scene) (e : Outside) where
+  -- how many terms it evaluates, if they are counted
+  abbrev pub number : Option ℕ
+  number = counted counting s.core (event_at w s)
+
   -- what an answer comes to, whatever exits follow
-  goes_by : (a : Answer) → answer_to w s ≡ a → (xs : List Exit) → event counting w (expecting xs s) ≡ answered counting (expecting xs s) a
-  goes_by a is xs = ap (answered counting (expecting xs s)) is
+  goes_by : (a : Answer) → answer_to w s ≡ a → (xs : List Exit) → event counting w (expecting xs s) ≡ answered number (expecting xs s) a
+  goes_by a is xs = ap (answered number (expecting xs s)) is
 
   -- the lines of an accepted one
   abbrev pub lines_of_step : CoreState → Done → List ℕ
-  lines_of_step c r = reply_text c.program r (option_map (λ count. count s.core c) counting)
+  lines_of_step c r = reply_text c.program r number
 
   -- it was accepted
   pub accepted : (c : CoreState) (r : Done) (k : Known) (wr : Option (List ℕ)) → answer_to w s ≡ Accepted c r → BecomesBy (committed r.delta) e.keeper k → IsSure k →
@@ -39,7 +42,7 @@ module _ (counting : Counting) (w : What) (s : Scene) (e : Outside) where
   accepted c r k wr is becomes sure wrote =
       let e1 : Outside = record e { keeper = k } in
       let e2 : Outside = record e { written = wr; keeper = k } in
-      does_known (step_outputs counting s.core c r) s (record s { core = c }) e e2 (event counting w) refl (λ more. goes_by (Accepted c r) is more)
+      does_known (step_outputs number c r) s (record s { core = c }) e e2 (event counting w) refl (λ more. goes_by (Accepted c r) is more)
       (did_more (Commit r.delta ∷ []) (Print (lines_of_step c r) ∷ []) e e1 e2 (committed_so r.delta e k becomes sure) (printed (lines_of_step c r) e1 wr wrote))
 
   -- it changed nothing
@@ -55,7 +58,7 @@ module _ (counting : Counting) (w : What) (s : Scene) (e : Outside) where
   -- ---- where it stops
 
   -- a stop among the outputs that an answer comes to
-  stops_by : (a : Answer) (outputs : List Output) (e' : Outside) → answer_to w s ≡ a → ((xs : List Exit) → (answered counting (expecting xs s) a).outputs ≡ outputs) →
+  stops_by : (a : Answer) (outputs : List Output) (e' : Outside) → answer_to w s ≡ a → ((xs : List Exit) → (answered number (expecting xs s) a).outputs ≡ outputs) →
       Stopped outputs e e' → StopsIn (event counting w) s e e'
   stops_by a outputs e' is known stopped = record {
     outputs = outputs;
@@ -69,7 +72,7 @@ module _ (counting : Counting) (w : What) (s : Scene) (e : Outside) where
   shown_in_part c r k wr is becomes sure front =
       let e1 : Outside = record e { keeper = k } in
       let e2 : Outside = record e { written = wr; keeper = k } in
-      stops_by (Accepted c r) (step_outputs counting s.core c r) e2 is (λ xs. refl)
+      stops_by (Accepted c r) (step_outputs number c r) e2 is (λ xs. refl)
       (then_stopped (Commit r.delta ∷ []) (Print (lines_of_step c r) ∷ []) e e1 e2 (committed_so r.delta e k becomes sure) (print_failed (lines_of_step c r) [] e1 wr front))
 
   -- nothing was written of one that changed nothing
@@ -92,7 +95,7 @@ module _ (counting : Counting) (w : What) (s : Scene) (e : Outside) where
   -- its commit failed
   pub not_kept : (c : CoreState) (r : Done) (k : Known) → answer_to w s ≡ Accepted c r → Stays e.keeper k ⊎ BecomesBy (committed r.delta) e.keeper k →
       LeavesEither (committed r.delta) e.keeper k → StopsIn (event counting w) s e (record e { keeper = k })
-  not_kept c r k is either leaves = stops_by (Accepted c r) (step_outputs counting s.core c r) (record e { keeper = k }) is (λ xs. refl)
+  not_kept c r k is either leaves = stops_by (Accepted c r) (step_outputs number c r) (record e { keeper = k }) is (λ xs. refl)
       (commit_failed r.delta (Print (lines_of_step c r) ∷ []) e k either leaves)
 
   -- memory was out

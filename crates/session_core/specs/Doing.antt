@@ -30,8 +30,8 @@ scene_of core last (Some readings) (Some contents) =
 
 -- what is seen of a session and its ends
 abbrev pub seen :
-    {K G O L C F : Type 0} → (K → Known) → (O → Option (List ℕ)) → (L → Option (List (Order × Exit))) →
-    (C → Option (List ℕ)) → (F → Option Contents) → Session K G → Ends O L C F → Moment
+    {K G N O L C F : Type 0} → (K → Known) → (O → Option (List ℕ)) → (L → Option (List (Order × Exit))) →
+    (C → Option (List ℕ)) → (F → Option Contents) → Session K G N → Ends O L C F → Moment
 seen known written runs readings held s e = record {
   scene = scene_of s.desk.engine.core s.last (readings e.clock) (held e.files);
   outside = record { written = written e.out; ran = runs e.launcher; keeper = known s.desk.keeper };
@@ -74,7 +74,7 @@ pub record Counts : Type 0 where
 
 -- those of a session and its ends
 abbrev pub counts :
-    {K G O L C F : Type 0} → (K → ℕ) → (O → ℕ) → (F → ℕ) → Session K G → Ends O L C F → Counts
+    {K G N O L C F : Type 0} → (K → ℕ) → (O → ℕ) → (F → ℕ) → Session K G N → Ends O L C F → Counts
 counts keeper sink files s e = record {
   sink = sink e.out;
   keeper = keeper s.desk.keeper;
@@ -88,7 +88,7 @@ IsCausedBy stop.ReadFault old new = Rose old.files new.files
 IsCausedBy stop.WriteFault old new = Rose old.sink new.sink
 IsCausedBy stop.KeeperFault old new = Rose old.keeper new.keeper
 IsCausedBy stop.NoMemory old new = Unit {0}
-IsCausedBy stop.LimitReached old new = Unit {0}
+IsCausedBy stop.LimitReached old new = new ≡ old
 
 -- a call leaves the counts, or stops with a cause if the desk was open
 abbrev pub Causes : Counts → Counts → {T : Type 0} → Result T Stop → Type 0

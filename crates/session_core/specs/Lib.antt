@@ -1,5 +1,9 @@
 pub mod Answers
 pub mod Doing
+pub mod Lines
+pub mod Numbers
 pub mod Orders
 pub mod Printing
+pub mod Runs
+pub mod Watched
 pub mod inside

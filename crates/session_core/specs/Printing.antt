@@ -22,7 +22,7 @@ IsPrintStop stop.ReadFault old new = ⊥
 IsPrintStop stop.WriteFault old new = Rose old new
 IsPrintStop stop.KeeperFault old new = ⊥
 IsPrintStop stop.NoMemory old new = Unit {0}
-IsPrintStop stop.LimitReached old new = Unit {0}
+IsPrintStop stop.LimitReached old new = new ≡ old
 
 -- the sink's count stays, or the stop has its cause
 abbrev pub PrintCause : ℕ → ℕ → {T : Type 0} → Result T Stop → Type 0

@@ -3,10 +3,12 @@ ghost use Rattle.std.specs.Prelude.{◌≡◌, None, Some, IfSome};
 ghost use Rattle.core_rules.specs.declared.notes.Note.TheVariants as note;
 ghost use Rattle.launch_core.specs.Launching.{HasWords};
 ghost use Rattle.session_rules.specs.Steps as part;
+ghost use Rattle.session_core.specs.Numbers.{counting};
 ghost use Rattle.session_core.specs.Doing.{Causes, Plays, counts, seen};
 ghost use Rattle.session_core.specs.Orders.{HasNoteWords, run_noted};
 
 use crate::ends::Ends;
+use crate::numbering::Numbering;
 use crate::session::Session;
 use crate::steps::print;
 use crate::stop::Stop;
@@ -22,7 +24,7 @@ use std::sync::ledger::Ledger;
 /// So many orders are run for one line at most.
 const ORDER_LIMIT: u32 = 1000;
 
-impl<K: Keeper, G: Ledger> Session<K, G> {
+impl<K: Keeper, G: Ledger, N: Numbering> Session<K, G, N> {
     /// The end of an order, at the next reading.
     fn end_order<O: Sink, L: Launcher, C: Clock, F: Files>(
         &mut self,
@@ -31,7 +33,7 @@ impl<K: Keeper, G: Ledger> Session<K, G> {
         exit: Exit,
     ) -> Result<(), Stop>
         ensures part { let see = seen K.known O.written L.runs C.readings F.held in
-            Plays (part.end_of None job exit)
+            Plays (part.end_of (counting N.shows) job exit)
             (see self.old ends.old) (see self.new ends.new) result }
         ensures cause { let count = counts K.faults O.faults F.faults in
             Causes (count self.old ends.old) (count self.new ends.new) result }
@@ -49,7 +51,7 @@ impl<K: Keeper, G: Ledger> Session<K, G> {
     ) -> Result<(), Stop>
         requires { HasWords order.now }
         ensures part { let see = seen K.known O.written L.runs C.readings F.held in
-            Plays (part.run_of None (note.Started order.now))
+            Plays (part.run_of (counting N.shows) (note.Started order.now))
             (see self.old ends.old) (see self.new ends.new) result }
         ensures cause { let count = counts K.faults O.faults F.faults in
             Causes (count self.old ends.old) (count self.new ends.new) result }
@@ -66,7 +68,7 @@ impl<K: Keeper, G: Ledger> Session<K, G> {
     ) -> Result<(), Stop>
         requires { HasNoteWords note.now }
         ensures part { let see = seen K.known O.written L.runs C.readings F.held in
-            Plays (part.run_of None note.now)
+            Plays (part.run_of (counting N.shows) note.now)
             (see self.old ends.old) (see self.new ends.new) result }
         ensures cause { let count = counts K.faults O.faults F.faults in
             Causes (count self.old ends.old) (count self.new ends.new) result }
@@ -88,7 +90,8 @@ impl<K: Keeper, G: Ledger> Session<K, G> {
     ) -> Result<(), Stop>
         requires { IfSome note.now HasNoteWords }
         ensures part { let see = seen K.known O.written L.runs C.readings F.held in
-            Plays (run_noted None note.now) (see self.old ends.old) (see self.new ends.new) result }
+            Plays (run_noted (counting N.shows) note.now)
+            (see self.old ends.old) (see self.new ends.new) result }
         ensures cause { let count = counts K.faults O.faults F.faults in
             Causes (count self.old ends.old) (count self.new ends.new) result }
     {
@@ -105,7 +108,7 @@ impl<K: Keeper, G: Ledger> Session<K, G> {
         worker: u32,
     ) -> Result<(), Stop>
         ensures part { let see = seen K.known O.written L.runs C.readings F.held in
-            Plays (part.one_order None worker)
+            Plays (part.one_order (counting N.shows) worker)
             (see self.old ends.old) (see self.new ends.new) result }
         ensures cause { let count = counts K.faults O.faults F.faults in
             Causes (count self.old ends.old) (count self.new ends.new) result }
@@ -121,7 +124,8 @@ impl<K: Keeper, G: Ledger> Session<K, G> {
         ends: &mut Ends<O, L, C, F>,
     ) -> Result<(), Stop>
         ensures part { let see = seen K.known O.written L.runs C.readings F.held in
-            Plays (part.orders None 0) (see self.old ends.old) (see self.new ends.new) result }
+            Plays (part.orders (counting N.shows) 0)
+            (see self.old ends.old) (see self.new ends.new) result }
         ensures cause { let count = counts K.faults O.faults F.faults in
             Causes (count self.old ends.old) (count self.new ends.new) result }
     {
@@ -137,7 +141,8 @@ impl<K: Keeper, G: Ledger> Session<K, G> {
         ends: &mut Ends<O, L, C, F>,
     ) -> Result<(), Stop>
         ensures part { let see = seen K.known O.written L.runs C.readings F.held in
-            Plays (part.all_orders None) (see self.old ends.old) (see self.new ends.new) result }
+            Plays (part.all_orders (counting N.shows))
+            (see self.old ends.old) (see self.new ends.new) result }
         ensures cause { let count = counts K.faults O.faults F.faults in
             Causes (count self.old ends.old) (count self.new ends.new) result }
     {

@@ -4,6 +4,7 @@ ghost use Rattle.core_rules.specs.Orders.{picked};
 ghost use Rattle.core_rules.specs.Steps.{at_time};
 ghost use Rattle.session_core.specs.Orders.{free_worker_of};
 
+use crate::numbering::Numbering;
 use crate::session::Session;
 use engine_core::engine_law;
 use keeper_core::Keeper;
@@ -12,7 +13,7 @@ use std::sync::ledger::Ledger;
 /// The latest moment that an event can have, in milliseconds since 1970.
 const LATEST: u64 = 1 << 60;
 
-impl<K: Keeper, G: Ledger> Session<K, G> {
+impl<K: Keeper, G: Ledger, N: Numbering> Session<K, G, N> {
     /// The moment of an event at the last reading.
     fn moment(&self) -> u64
         ensures { result ≡ max self.now.desk.engine.core.now (min self.now.last (2 ^ 60)) }

@@ -1,13 +1,16 @@
 //! The events of a session.
-ghost use Rattle.std.specs.Prelude.{◌≡◌, None, IfOk, IfSome, OnErr};
+ghost use Rattle.std.specs.Prelude.{◌≡◌, None, IfErr, IfOk, IfSome, OnErr};
 ghost use Rattle.engine_rules.specs.Proper.{IsProperWhat};
 ghost use Rattle.report_text.specs.Lines.{refusal_words, refused_line, reply_text};
 ghost use Rattle.session_rules.specs.Steps as part;
+ghost use Rattle.session_core.specs.Numbers.{CountsSince, counting, number};
 ghost use Rattle.session_core.specs.Doing.{Causes, Plays, counts, seen};
 ghost use Rattle.session_core.specs.Printing.{IsUnprinted, PrintCause, Writes};
 ghost use Rattle.session_core.specs.Answers.{accepted_note, answer_of, news};
+ghost use Rattle.session_core.specs.Watched.{KeepsProgram};
 
 use crate::ends::Ends;
+use crate::numbering::Numbering;
 use crate::session::Session;
 use crate::stop::Stop;
 use core_rules::{Done, Event, Note, Refusal, What};
@@ -54,16 +57,35 @@ fn news(note: Note) -> Option<Note>
     }
 }
 
-impl<K: Keeper, G: Ledger> Session<K, G> {
-    /// Writes the lines of a step. Returns its note, unless nothing changed.
-    fn show<O: Sink>(&self, out: &mut O, done: Done) -> Result<Option<Note>, Stop>
-        ensures text { let text = reply_text self.now.desk.engine.core.program done None in
+impl<K: Keeper, G: Ledger, N: Numbering> Session<K, G, N> {
+    /// How many terms were evaluated since the counter showed a number. A counter that is full
+    /// can't tell.
+    pub(crate) fn evaluated_since(&self, before: u64) -> Result<u64, Stop>
+        ensures ok { IfOk result (CountsSince before self.now.ticks) }
+        ensures only { IfErr result (λ stop. stop ≡ Stop.NoMemory) }
+    {
+        match self.ticks.shown() {
+            u64::MAX => Err(Stop::NoMemory),
+            now => Ok(now.saturating_sub(before)),
+        }
+    }
+
+    /// Writes the lines of a step that evaluated so many terms. Returns its note, unless nothing
+    /// changed.
+    pub(crate) fn show<O: Sink>(
+        &self,
+        out: &mut O,
+        done: Done,
+        evaluated: u64,
+    ) -> Result<Option<Note>, Stop>
+        ensures text { let program = self.now.desk.engine.core.program in
+            let text = reply_text program done (number N.shows evaluated) in
             Writes text (O.written out.old) (O.written out.new) result }
         ensures note { IfOk result (λ note. note ≡ news done.note) }
         ensures cause { PrintCause (O.faults out.old) (O.faults out.new) result }
     {
         let program = self.desk.engine().program();
-        let Ok(text) = version_lines(self.alloc, program, &done, None) else {
+        let Ok(text) = version_lines(self.alloc, program, &done, N::number(evaluated)) else {
             return Err(Stop::NoMemory);
         };
         print(out, text.as_slice())?;
@@ -79,7 +101,9 @@ impl<K: Keeper, G: Ledger> Session<K, G> {
     ) -> Result<Option<Note>, Stop>
         requires { IsProperWhat what }
         ensures part { let see = seen K.known O.written L.runs C.readings F.held in
-            Plays (part.event None what) (see self.old ends.old) (see self.new ends.new) result }
+            Plays (part.event (counting N.shows) what)
+            (see self.old ends.old) (see self.new ends.new) result }
+        ensures program { KeepsProgram self.old self.new }
         ensures note { let answer = answer_of self.old.desk self.old.last what in
             IfOk result (λ note. note ≡ accepted_note answer) }
         ensures cause { let count = counts K.faults O.faults F.faults in
@@ -89,8 +113,12 @@ impl<K: Keeper, G: Ledger> Session<K, G> {
             at: self.last,
             what,
         };
+        let before = self.ticks.shown();
         match self.desk.apply(event, &mut self.ticks) {
-            Ok(done) => self.show(&mut ends.out, done),
+            Ok(done) => {
+                let evaluated = self.evaluated_since(before)?;
+                self.show(&mut ends.out, done, evaluated)
+            }
             Err(DeskFault::Refused(refusal)) => refuse(self.alloc, &mut ends.out, refusal),
             Err(DeskFault::NoMemory) => Err(Stop::NoMemory),
             Err(DeskFault::Keeper) => Err(Stop::KeeperFault),

@@ -31,7 +31,7 @@ use Rattle.report_text.specs.Lines.{refusal_words, refused_line}
 use Rattle.session_rules.specs.Outputs.{Output, Print, Run}
 use Rattle.session_rules.specs.Parts.{Turn, does, nothing, preceded, followed, then_do}
 use Rattle.session_rules.specs.Scenes.{Ends, Scene, exit_now, exits_later, reading_now, readings_later}
-use Rattle.session_rules.specs.Steps.{Counting, answer_to, answered, all_orders, free_worker, next_order, one_order, orders, refused, run_after, run_of, step_outputs}
+use Rattle.session_rules.specs.Steps.{Counting, answer_to, answered, all_orders, counted, event_at, free_worker, next_order, one_order, orders, refused, run_after, run_of, step_outputs}
 use Rattle.session_rules.specs.Transcripts.{Quits, Limit, asked_part, before, before_lines, continued, ended, event_now, first_scene, is_end, line_count, lines_from, next_line, opening_part, orders_after, session_of, session_on, transcript}
 use Rattle.session_rules.specs.Watching.{watch_all}
 
@@ -43,18 +43,22 @@ module _ (counting : Counting) (s : Scene) where
   after_order c = record s { core = c; last = reading_now s.readings; readings = readings_later s.readings; exits = exits_later s.exits }
 
   -- all that an order does
-  abbrev pub order_outputs : Order → CoreState → Done → CoreState → Done → List Output
-  order_outputs o c1 r1 c2 r2 = step_outputs counting s.core c1 r1 ++ Run o (exit_now s.exits) ∷ step_outputs counting c1 c2 r2
+  abbrev pub order_outputs : ℕ → Order → CoreState → Done → CoreState → Done → List Output
+  order_outputs w o c1 r1 c2 r2 =
+      step_outputs (counted counting s.core (event_at (what.Take w) s)) c1 r1
+      ++ Run o (exit_now s.exits) ∷ step_outputs (counted counting c1 (record { at = reading_now s.readings; what = what.Finish o.job (exit_now s.exits) })) c2 r2
 
   pub order_is : (w : ℕ) (o : Order) {c1 c2 : CoreState} {r1 r2 : Done} → answer_to (what.Take w) s ≡ Accepted c1 r1 → r1.note ≡ note.Started o →
       step c1 (record { at = reading_now s.readings; what = what.Finish o.job (exit_now s.exits) }) ≡ Accepted c2 r2 →
-      one_order counting w s ≡ does (order_outputs o c1 r1 c2 r2) (after_order c2)
+      one_order counting w s ≡ does (order_outputs w o c1 r1 c2 r2) (after_order c2)
   order_is w o {c1} {c2} {r1} {r2} takes starts ends =
       let s1 : Scene = record s { core = c1 } in
       let s3 : Scene = record s { core = c1; last = reading_now s.readings; readings = readings_later s.readings; exits = exits_later s.exits } in
-      ap (λ (a : Answer). followed (answered counting s a) (run_after counting a)) takes
-      ∙ ap (λ (n : Note). preceded (step_outputs counting s.core c1 r1) (run_of counting n s1)) starts
-      ∙ ap (λ (a : Answer). preceded (step_outputs counting s.core c1 r1) (preceded (Run o (exit_now s.exits) ∷ []) (answered counting s3 a))) ends
+      let first = counted counting s.core (event_at (what.Take w) s) in
+      let last = counted counting c1 (event_at (what.Finish o.job (exit_now s.exits)) s3) in
+      ap (λ (a : Answer). followed (answered first s a) (run_after counting a)) takes
+      ∙ ap (λ (n : Note). preceded (step_outputs first c1 r1) (run_of counting n s1)) starts
+      ∙ ap (λ (a : Answer). preceded (step_outputs first c1 r1) (preceded (Run o (exit_now s.exits) ∷ []) (answered last s3 a))) ends
 
   -- an order of the first worker that has a pick, and those after it
   pub orders_go : (n w : ℕ) {outputs : List Output} {t : Scene} → free_worker s ≡ Some w → one_order counting w s ≡ does outputs t →
@@ -67,11 +71,11 @@ module _ (counting : Counting) (s : Scene) where
 
   -- ---- events
 
-  pub event_goes : (w : What) {c : CoreState} {r : Done} → answer_to w s ≡ Accepted c r → event_now counting w s ≡ preceded (step_outputs counting s.core c r) (all_orders counting (record s { core = c }))
-  event_goes w takes = ap (λ (a : Answer). followed (answered counting s a) (orders_after counting a)) takes
+  pub event_goes : (w : What) {c : CoreState} {r : Done} → answer_to w s ≡ Accepted c r → event_now counting w s ≡ preceded (step_outputs (counted counting s.core (event_at w s)) c r) (all_orders counting (record s { core = c }))
+  event_goes w takes = ap (λ (a : Answer). followed (answered (counted counting s.core (event_at w s)) s a) (orders_after counting a)) takes
 
   pub event_refused : (w : What) {r : Refusal} {why : List ℕ} → answer_to w s ≡ Refused r → refusal_words r ≡ Some why → event_now counting w s ≡ does (Print (refused_line why) ∷ []) s
-  event_refused w {r} {why} refuses words = ap (λ (a : Answer). followed (answered counting s a) (orders_after counting a)) refuses ∙ ap (λ (o : Option (List ℕ)). followed (refused s o) nothing) words
+  event_refused w {r} {why} refuses words = ap (λ (a : Answer). followed (answered (counted counting s.core (event_at w s)) s a) (orders_after counting a)) refuses ∙ ap (λ (o : Option (List ℕ)). followed (refused s o) nothing) words
 
   -- ---- lines
 

@@ -5,14 +5,15 @@ use Rattle.std.specs.declared.option.Option.{Option}
 use Rattle.std.specs.declared.option.Option.TheVariants.{None, Some}
 use Rattle.std.specs.Io.KnownBytes.{Appends}
 use Rattle.std.proofs.lemmas.List.{append-nil}
+use Rattle.value_core.proofs.Basics.{some_is}
 use Rattle.op_keys.specs.declared.order.Exit.{Exit}
 use Rattle.op_keys.specs.declared.order.Order.{Order}
 use Rattle.core_rules.specs.declared.done.Delta.{Delta}
 use Rattle.keeper_core.specs.declared.stored.Stored.{Stored}
 use Rattle.keeper_core.specs.EitherSchema.{committed}
-use Rattle.keeper_core.specs.KeeperCalls.{Known, IsSure}
+use Rattle.keeper_core.specs.KeeperCalls.{IsSure, Known}
 use Rattle.session_rules.specs.Outputs.{Output, Commit, Print, Run, deltas, exits, runs, texts}
-use Rattle.session_rules.specs.Outside.{Grows, Keeps, Leaves, with_deltas}
+use Rattle.session_rules.specs.Outside.{Grows, Keeps, Leaves, LeavesTables, WereKnown, with_deltas}
 
 -- ---- lists of outputs
 
@@ -50,12 +51,6 @@ with_deltas_append s (d ∷ ds) es = with_deltas_append (committed d s) ds es
 
 -- ---- known bytes and lists
 
-pub appends_more : (a b c : Option (List ℕ)) (x y z : List ℕ) → Appends a b x → Appends b c y → x ++ y ≡ z → Appends a c z
-appends_more None b c x y z p q e = tt
-appends_more (Some a) None c x y z p q e = absurd p
-appends_more (Some a) (Some b) None x y z p q e = absurd q
-appends_more (Some a) (Some b) (Some c) x y z p q e = q ∙ ap (λ (t : List ℕ). t ++ y) p ∙ append_assoc a x y ∙ ap (λ (t : List ℕ). a ++ t) e
-
 pub appends_none : (a : Option (List ℕ)) → Appends a a []
 appends_none None = tt
 appends_none (Some a) = sym (append-nil a)
@@ -74,9 +69,6 @@ grows_none None = tt
 grows_none (Some a) = sym (append-nil a)
 
 -- ---- what is kept
-
-some_is : {A : Type 0} (x y : A) → Some x ≡ Some y → x ≡ y
-some_is x y e = cc
 
 none_is : {A : Type 0} (x : A) → None ≡ Some x → ⊥
 none_is x e = cc
@@ -105,12 +97,12 @@ if_some None P f = tt
 if_some (Some s) P f = f s refl
 
 -- a stop after commits that were all kept
-pub leaves_kept : (a b : Known) (ds : List Delta) → Keeps a.tables b.tables ds → IsSure b → Leaves a b ds []
+pub leaves_kept : (a b : Known) (ds : List Delta) → Keeps a.tables b.tables ds → LeavesTables b → Leaves a b ds []
 leaves_kept a b ds kept sure =
     if_some b.tables _ (λ (s : Stored) (e : b.tables ≡ Some s) (x : Stored) (left : b.after_stop x).
     let was = kept_at a.tables b.tables ds s kept e in
-    let just = if_some_at b.tables (λ (t : Stored). (y : Stored) → b.after_stop y ↔ (y ≡ t)) s sure e in
-    (was.0, was.1, inl ((just x).0 left ∙ was.2)))
+    let just = if_some_at b.tables (λ (t : Stored). (y : Stored) → b.after_stop y → y ≡ t) s sure e in
+    (was.0, was.1, inl (just x left ∙ was.2)))
 
 -- a stop after further ones
 pub leaves_after : (a b c : Known) (ds es more : List Delta) → Keeps a.tables b.tables ds → Leaves b c es more → Leaves a c (ds ++ es) more
@@ -126,3 +118,23 @@ leaves_after a b c ds es more kept leaves =
         | inr p ↦ inr (p ∙ moved (es ++ more) ∙ ap (λ (fs : List Delta). with_deltas fs was.0) (sym (append_assoc ds es more)))
       ],
     ))
+
+-- ---- tables that are known
+
+-- kept tables that are known were known
+pub kept_known : (a b : Known) (ds : List Delta) → Keeps a.tables b.tables ds → WereKnown a b
+kept_known a b ds kept = if_some b.tables _ (λ (s : Stored) (e : b.tables ≡ Some s). let was = kept_at a.tables b.tables ds s kept e in (was.0, was.1))
+
+-- and were before that
+pub known_then : (a b c : Known) → WereKnown a b → WereKnown b c → WereKnown a c
+known_then a b c p q = if_some c.tables _ (λ (s : Stored) (e : c.tables ≡ Some s).
+    let mid = if_some_at c.tables (λ (t : Stored). (was : Stored) × (b.tables ≡ Some was)) s q e in
+    if_some_at b.tables (λ (t : Stored). (was : Stored) × (a.tables ≡ Some was)) mid.0 p mid.1)
+
+pub known_same : (a : Known) → WereKnown a a
+known_same a = if_some a.tables _ (λ (s : Stored) (e : a.tables ≡ Some s). (s, e))
+
+-- what a stop leaves
+pub sure_leaves : (k : Known) → IsSure k → LeavesTables k
+sure_leaves k sure = if_some k.tables _ (λ (s : Stored) (is : k.tables ≡ Some s) (x : Stored) (left : k.after_stop x).
+    (if_some_at k.tables (λ (t : Stored). (y : Stored) → k.after_stop y ↔ (y ≡ t)) s sure is x).0 left)

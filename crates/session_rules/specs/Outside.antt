@@ -8,7 +8,7 @@ use Rattle.op_keys.specs.declared.order.Order.{Order}
 use Rattle.core_rules.specs.declared.done.Delta.{Delta}
 use Rattle.keeper_core.specs.declared.stored.Stored.{Stored}
 use Rattle.keeper_core.specs.EitherSchema.{committed}
-use Rattle.keeper_core.specs.KeeperCalls.{Known, IsSure}
+use Rattle.keeper_core.specs.KeeperCalls.{Known}
 use Rattle.session_rules.specs.Outputs.{Output, Commit, Print, Run, deltas, texts, runs}
 
 -- what was written, and the orders that were run with their exits, unless they are unknown; and what is known of the keeper
@@ -37,12 +37,20 @@ abbrev pub Leaves : Known → Known → List Delta → List Delta → Type 0
 Leaves old new ds more =
     IfSome new.tables (λ s. (x : Stored) → new.after_stop x → (was : Stored) × (old.tables ≡ Some was) × ((x ≡ with_deltas ds was) ⊎ (x ≡ with_deltas (ds ++ more) was)))
 
+-- if the tables are known now, they were known before
+abbrev pub WereKnown : Known → Known → Type 0
+WereKnown old new = IfSome new.tables (λ s. (was : Stored) × (old.tables ≡ Some was))
+
+-- a stop leaves nothing but the tables, if they are known
+abbrev pub LeavesTables : Known → Type 0
+LeavesTables now = IfSome now.tables (λ s. (x : Stored) → now.after_stop x → x ≡ s)
+
 -- All these outputs were done.
 pub record Did (outputs : List Output) (e e' : Outside) : Type 0 where
   pub wrote : Appends e.written e'.written (texts outputs)
   pub ran : Grows e.ran e'.ran (runs outputs)
   pub kept : Keeps e.keeper.tables e'.keeper.tables (deltas outputs)
-  pub sure : IsSure e.keeper → IsSure e'.keeper
+  pub sure : LeavesTables e.keeper → LeavesTables e'.keeper
 
 -- a front of a text
 abbrev pub IsFront : List ℕ → List ℕ → Type 0
@@ -65,4 +73,5 @@ pub record Stopped (outputs : List Output) (e e' : Outside) : Type 0 where
   pub part : IsPart left text more
   pub wrote : Appends e.written e'.written (texts done ++ text)
   pub ran : Grows e.ran e'.ran (runs done)
-  pub leaves : IsSure e.keeper → Leaves e.keeper e'.keeper (deltas done) more
+  pub known : WereKnown e.keeper e'.keeper
+  pub leaves : LeavesTables e.keeper → Leaves e.keeper e'.keeper (deltas done) more

@@ -1,5 +1,5 @@
 -- What a call of the program promises: how far it came in the plan of its command, and with which status.
-use Rattle.std.specs.Prelude.{◌≡◌, ◌≢◌, ℕ, ◌-◌, ◌≤◌, Bool, IsTrue, List, [], ◌∷◌, ◌++◌, ◌⊎◌, length, slice_index_or, IfSome}
+use Rattle.std.specs.Prelude.{◌≡◌, ◌≢◌, ℕ, ◌-◌, ◌≤◌, Bool, true, false, IsTrue, List, [], ◌∷◌, ◌++◌, ◌⊎◌, length, slice_index_or, IfSome}
 use Rattle.std.specs.declared.option.Option.{Option}
 use Rattle.std.specs.declared.option.Option.TheVariants.{None, Some}
 use Rattle.std.specs.Io.KnownBytes.{Appends}
@@ -12,7 +12,7 @@ use Rattle.core_rules.specs.declared.done.Delta.{Delta}
 use Rattle.keeper_core.specs.declared.stored.Stored.{Stored}
 use Rattle.keeper_core.specs.Contents.{fresh, loaded}
 use Rattle.keeper_core.specs.KeeperCalls.{begun}
-use Rattle.session_rules.specs.Commands.{Plan, File, made_program, made_script, run_plan, summary}
+use Rattle.session_rules.specs.Commands.{Plan, File, Missing, Refused, Sound, made_program, made_script, run_plan, summary}
 use Rattle.session_rules.specs.Outputs.{Output, Commit, Print, Run, deltas, exits, runs, texts}
 use Rattle.session_rules.specs.Outside.{Grows, IsPart, with_deltas}
 use Rattle.session_rules.specs.Scenes.{contents_after}
@@ -73,9 +73,16 @@ pub record Given : Type 0 where
   pub contents : Option Contents
   pub held : Option (List ℕ → Stored)
 
--- `run` on a file that is found to be so, over a store
+-- whether `run` on a file opens a store
+abbrev pub opens_store : File → Bool
+opens_store Missing = false
+opens_store (Refused line) = false
+opens_store (Sound p) = true
+
+-- `run` on a file that is found to be so, over a store, if the store that it opens is known to the end
 abbrev pub IsRunOn : File → Option (List ℕ) → Option Level → Counting → Given → ℕ → Seen → Seen → Type 0
 IsRunOn file path threshold counting given status e e' =
+    (IsTrue (opens_store file) → IsTrue e'.knows_left) →
     IfSome given.bytes (λ bytes. IfSome given.readings (λ readings. IfSome given.contents (λ contents. IfSome given.held (λ held.
     FollowsOn (λ xs. run_plan file (begun held path) threshold counting (record { bytes = bytes; readings = readings; contents = contents; exits = xs }))
     (begun held path) status e e'))))
@@ -90,9 +97,9 @@ IsRun IsFile file_path path threshold counting given status e e' =
     IfSome given.contents (λ contents. (file : File) → IsFile (content_now (contents file_path)) file →
     IsRunOn file path threshold counting (read_once file_path contents given) status e e')
 
--- a command that reads a store alone: `jobs`, `stats` and `log`
+-- a command that reads a store alone, if the store is known to the end: `jobs`, `stats` and `log`
 abbrev pub IsReport : (Stored → Plan) → List ℕ → Given → ℕ → Seen → Seen → Type 0
-IsReport plan path given status e e' = IfSome given.held (λ held. FollowsOn (λ xs. plan (held path)) (held path) status e e')
+IsReport plan path given status e e' = IsTrue e'.knows_left → IfSome given.held (λ held. FollowsOn (λ xs. plan (held path)) (held path) status e e')
 
 -- a command that goes by a file alone: `check`
 abbrev pub IsCheck : (Option (List ℕ) → File → Type 0) → (File → Plan) → List ℕ → Given → ℕ → Seen → Seen → Type 0

@@ -4,6 +4,7 @@ use Rattle.std.specs.List.{find, range_with_len}
 use Rattle.std.specs.Option.{option_map}
 use Rattle.op_keys.specs.declared.order.Exit.{Exit}
 use Rattle.core_rules.specs.declared.done.Done.{Done}
+use Rattle.core_rules.specs.declared.events.Event.{Event}
 use Rattle.core_rules.specs.declared.events.What.{What}
 use Rattle.core_rules.specs.declared.events.What.TheVariants as what
 use Rattle.core_rules.specs.declared.notes.Note.{Note}
@@ -16,35 +17,42 @@ use Rattle.session_rules.specs.Outputs.{Output, Commit, Print, Run}
 use Rattle.session_rules.specs.Parts.{Turn, Part, does, nothing, used_up, followed}
 use Rattle.session_rules.specs.Scenes.{Scene, at_reading, exit_now, exits_later, expecting}
 
--- how many evaluations a step makes, from one state to another, if they are asked for
+-- how many terms an event evaluates in a state, if they are counted
 abbrev pub Counting : Type 0
-Counting = Option (CoreState → CoreState → ℕ)
+Counting = Option (CoreState → Event → ℕ)
+
+-- the number for one event, if they are counted
+abbrev pub counted : Counting → CoreState → Event → Option ℕ
+counted counting s e = option_map (λ count. count s e) counting
 
 -- ---- events
 
 -- the commit of an accepted step, and its lines
-abbrev pub step_outputs : Counting → CoreState → CoreState → Done → List Output
-step_outputs counting old new r =
-    Commit r.delta ∷ Print (reply_text new.program r (option_map (λ count. count old new) counting)) ∷ []
+abbrev pub step_outputs : Option ℕ → CoreState → Done → List Output
+step_outputs n core r = Commit r.delta ∷ Print (reply_text core.program r n) ∷ []
 
 -- the line of a refusal; if numbers are used up there is none, and the session ends
 abbrev pub refused : Scene → Option (List ℕ) → Turn
 refused s None = used_up
 refused s (Some why) = does (Print (refused_line why) ∷ []) s
 
--- what is done for an answer
-abbrev pub answered : Counting → Scene → Answer → Turn
-answered counting s (Refused r) = refused s (refusal_words r)
-answered counting s (Idle r) = nothing s
-answered counting s (Accepted core r) = does (step_outputs counting s.core core r) (record s { core = core })
+-- what is done for an answer, with the number of evaluations if they are counted
+abbrev pub answered : Option ℕ → Scene → Answer → Turn
+answered n s (Refused r) = refused s (refusal_words r)
+answered n s (Idle r) = nothing s
+answered n s (Accepted core r) = does (step_outputs n core r) (record s { core = core })
 
--- the answer to an event at the last reading
+-- an event at the last reading
+abbrev pub event_at : What → Scene → Event
+event_at w s = record { at = s.last; what = w }
+
+-- the answer to it
 abbrev pub answer_to : What → Scene → Answer
-answer_to w s = step s.core (record { at = s.last; what = w })
+answer_to w s = step s.core (event_at w s)
 
--- an event at that reading
+-- what is done for it
 abbrev pub event : Counting → What → Part
-event counting w s = answered counting s (answer_to w s)
+event counting w s = answered (counted counting s.core (event_at w s)) s (answer_to w s)
 
 -- ---- one order
 

@@ -20,7 +20,7 @@ use Rattle.report_text.specs.Lines.{jobs_text, refused_line, reply_text}
 use Rattle.session_rules.specs.Outputs.{Output, Commit, Print}
 use Rattle.session_rules.specs.Parts.{Turn, Part, does, nothing, followed, then_do}
 use Rattle.session_rules.specs.Scenes.{Ends, Scene, reading_now, readings_later, at_reading}
-use Rattle.session_rules.specs.Steps.{Counting, answered, answer_to, all_orders}
+use Rattle.session_rules.specs.Steps.{Counting, answer_to, all_orders, event}
 use Rattle.session_rules.specs.Watching.{watch_all}
 
 -- ---- one line
@@ -34,7 +34,7 @@ orders_after counting (Refused r) s = nothing s
 -- an event at the last reading, and the orders after it
 abbrev pub event_now : Counting → What → Part
 event_now counting w s =
-    followed (answered counting s (answer_to w s)) (orders_after counting (answer_to w s))
+    followed (event counting w s) (orders_after counting (answer_to w s))
 
 -- what a line asks for; the word that ends the session does nothing
 abbrev pub asked_part : Counting → Option Control → Part
