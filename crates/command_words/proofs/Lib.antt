@@ -1,0 +1,4 @@
+pub mod Apps
+pub mod Building
+pub mod Parsing
+pub mod WordsRead
