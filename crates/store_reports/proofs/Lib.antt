@@ -1,0 +1,5 @@
+pub mod Lines
+pub mod Told
+pub mod Plans
+pub mod Reported
+pub mod Moving

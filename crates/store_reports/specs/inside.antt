@@ -1,0 +1,3 @@
+pub mod Writers
+pub mod Faults
+pub mod Answering
