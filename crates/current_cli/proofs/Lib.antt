@@ -1,9 +1,8 @@
-pub mod OneTask
-pub mod Writing
-pub mod QuietCores
-pub mod Answers
-pub mod Turns
-pub mod LineLoop
-pub mod Plans
-pub mod SetBack
-pub mod Evaluating
+pub mod OneFile
+pub mod Ran
+pub mod Ended
+pub mod Running
+pub mod Found
+pub mod Caused
+pub mod Whole
+pub mod Unread

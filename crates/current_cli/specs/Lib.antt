@@ -1,7 +1,3 @@
-pub mod Words
-pub mod Controls
-pub mod Outputs
-pub mod Transcripts
-pub mod Tasks
-pub mod Top
+pub mod Files
+pub mod Calls
 pub mod inside

@@ -1,5 +1,2 @@
-pub mod Stops
-pub mod Cores
-pub mod Turns
-pub mod TaskOf
-pub mod Evaluated
+pub mod FileFound
+pub mod Parts

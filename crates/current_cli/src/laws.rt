@@ -1,7 +1,7 @@
-//! A law of the words and the files. Its function does nothing: its contract is the law.
-ghost use Rattle.current_cli.specs.Tasks.{EachHasOneTask};
+//! A law of pipeline files. Its function does nothing: its contract is the law.
+ghost use Rattle.current_cli.specs.Files.{EachIsOneFile};
 
-/// The words of the command line and the contents of the files ask for exactly one task.
-pub fn words_have_one_task()
-    ensures { EachHasOneTask }
+/// Each file is found to be exactly one thing: missing, refused with a line, or sound.
+pub fn files_are_one_thing()
+    ensures { EachIsOneFile }
 {}

@@ -1,19 +1,20 @@
-//! Virumoleas: keeps the nodes of a pipeline evaluated as its inputs change.
+//! Virumoleas: runs the jobs of a pipeline and keeps its nodes up to date as its inputs change.
 #![tactic(auto)]
 
-mod controls;
-mod evaluation;
+mod ends;
+mod files;
 mod laws;
-mod session;
-mod stop;
-mod tasks;
+mod programs;
+mod runs;
 mod top;
-mod versions;
-mod words;
 
-use io_ends::{Reading, RealFiles, Writing};
+use ends::ProgramEnds;
+use io_ends::{Reading, RealClock, RealFiles, Writing};
+use launch_core::ChildLauncher;
+use session_core::Ends;
 use std::process::ExitCode;
 use std::{env, io};
+use store_keepers::StoreKeepers;
 use top::top;
 
 #[cfg(test)]
@@ -29,15 +30,16 @@ fn main(rt: HostRuntime) -> ExitCode {
         // Words that aren't text name no file.
         Err(_) => Vec::new(rt.alloc()),
     };
-    let mut input = Reading::new(rt.stdin());
-    let mut out = Writing::new(rt.stdout());
-    let mut files = RealFiles::new(&rt);
-    let status = top(
-        rt.alloc(),
-        words.as_slice(),
-        &mut input,
-        &mut out,
-        &mut files,
-    );
+    let mut program = ProgramEnds {
+        input: Reading::new(rt.stdin()),
+        keepers: StoreKeepers::new(&rt),
+        ends: Ends {
+            out: Writing::new(rt.stdout()),
+            launcher: ChildLauncher::new(&rt),
+            clock: RealClock::new(&rt),
+            files: RealFiles::new(&rt),
+        },
+    };
+    let status = top(rt.alloc(), words.as_slice(), &mut program);
     ExitCode::from(status)
 }

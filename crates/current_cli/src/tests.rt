@@ -1,6 +1,10 @@
 //! Statuses over ends in memory that fail. What a run prints stands in the repository's tests/.
+use crate::ends::ProgramEnds;
 use crate::top::top;
-use io_ends::{FilesInMemory, HeldFile, SinkInMemory, SourceInMemory};
+use io_ends::{ClockInMemory, FilesInMemory, HeldFile, SinkInMemory, SourceInMemory};
+use keeper_core::{FailingCall, Failure, MemKeepers};
+use launch_core::EchoLauncher;
+use session_core::Ends;
 use std::alloc::{AllocError, Global};
 use std::test::Fail;
 
@@ -25,7 +29,17 @@ struct Failing {
     files: u64,
     source: u64,
     sink: u64,
+    opens: u64,
+    keeper: u64,
 }
+
+const NONE: Failing = Failing {
+    files: 0,
+    source: 0,
+    sink: 0,
+    opens: 0,
+    keeper: 0,
+};
 
 fn files_of(alloc: Global, failing: u64) -> Result<FilesInMemory, AllocError> {
     let content = Vec::from_slice(alloc, FILE.as_bytes())?;
@@ -37,37 +51,59 @@ fn files_of(alloc: Global, failing: u64) -> Result<FilesInMemory, AllocError> {
     Ok(FilesInMemory::new(files, vec![in alloc; failing]?))
 }
 
-/// Runs `run p` over ends that take and give a few bytes at a time.
-fn run_with(alloc: Global, failing: Failing) -> Result<Outcome, AllocError> {
-    let run = String::from_str(alloc, "run")?;
-    let path = String::from_str(alloc, "p")?;
-    let words = vec![in alloc; run, path]?;
+fn keepers_of(alloc: Global, failing: Failing) -> Result<MemKeepers, AllocError> {
+    let open = FailingCall {
+        number: failing.opens,
+        failure: Failure::Before,
+    };
+    let call = FailingCall {
+        number: failing.keeper,
+        failure: Failure::Before,
+    };
+    let opens = vec![in alloc; open]?;
+    let calls = vec![in alloc; call]?;
+    Ok(MemKeepers::new(alloc, Vec::new(alloc), opens, calls))
+}
+
+/// Runs a command over ends that take and give a few bytes at a time.
+fn run_with(alloc: Global, words: &[&str], failing: Failing) -> Result<Outcome, AllocError> {
+    let mut given = Vec::new(alloc);
+    for word in words {
+        given.push(String::from_str(alloc, word)?)?;
+    }
     let lines = Vec::from_slice(alloc, LINES.as_bytes())?;
-    let mut input = SourceInMemory::new(lines, 3, vec![in alloc; failing.source]?);
-    let mut out = SinkInMemory::new(alloc, 1 << 10, 5, vec![in alloc; failing.sink]?)?;
-    let mut files = files_of(alloc, failing.files)?;
-    let status = top(alloc, words.as_slice(), &mut input, &mut out, &mut files);
-    let written = Vec::from_slice(alloc, out.bytes())?;
+    let mut program = ProgramEnds {
+        input: SourceInMemory::new(lines, 3, vec![in alloc; failing.source]?),
+        keepers: keepers_of(alloc, failing)?,
+        ends: Ends {
+            out: SinkInMemory::new(alloc, 1 << 10, 5, vec![in alloc; failing.sink]?)?,
+            launcher: EchoLauncher::new(alloc),
+            clock: ClockInMemory::new(Vec::new(alloc)),
+            files: files_of(alloc, failing.files)?,
+        },
+    };
+    let status = top(alloc, given.as_slice(), &mut program);
+    let written = Vec::from_slice(alloc, program.ends.out.bytes())?;
     Ok(Outcome { status, written })
 }
 
 #[test]
 fn an_end_that_fails_has_its_status(rt: HostRuntime) -> Result<(), Fail> {
-    let table: [(u64, u64, u8, &str); 5] = [
-        (0, 0, 0, WHOLE),
-        (1, 0, 4, ""),
-        (0, 1, 4, OPENING),
-        (0, 2, 4, OPENING),
-        (0, 6, 4, WHOLE),
+    // A keeper loads its tables, and then commits the opening and each version before it is shown.
+    let table: [(Failing, u8, &str); 9] = [
+        (Failing { files: 1, ..NONE }, 4, ""),
+        (Failing { source: 1, ..NONE }, 4, OPENING),
+        (Failing { source: 2, ..NONE }, 4, OPENING),
+        (Failing { source: 6, ..NONE }, 4, WHOLE),
+        (Failing { opens: 1, ..NONE }, 6, ""),
+        (Failing { keeper: 1, ..NONE }, 6, ""),
+        (Failing { keeper: 2, ..NONE }, 6, ""),
+        (Failing { keeper: 3, ..NONE }, 6, OPENING),
+        (NONE, 0, WHOLE),
     ];
-    for (files, source, status, expected) in table {
-        let failing = Failing {
-            files,
-            source,
-            sink: 0,
-        };
-        let outcome = run_with(rt.alloc(), failing)?;
-        assert_eq!(rt; outcome.status, status, "{files} {source}");
+    for (failing, status, expected) in table {
+        let outcome = run_with(rt.alloc(), &["run", "p", "--store=s"], failing)?;
+        assert_eq!(rt; outcome.status, status, "{expected}");
         assert_eq!(rt; str::from_utf8(outcome.written.as_slice())?, expected);
     }
     Ok(())
@@ -76,15 +112,35 @@ fn an_end_that_fails_has_its_status(rt: HostRuntime) -> Result<(), Fail> {
 #[test]
 fn a_sink_that_fails_leaves_a_front_written(rt: HostRuntime) -> Result<(), Fail> {
     // Five bytes a call: the opening takes five calls, the second version five more.
-    for call in 1..11u64 {
-        let failing = Failing {
-            files: 0,
-            source: 0,
-            sink: call,
-        };
-        let outcome = run_with(rt.alloc(), failing)?;
-        assert_eq!(rt; outcome.status, 5, "at call {call}");
+    for sink in 1..11u64 {
+        let failing = Failing { sink, ..NONE };
+        let outcome = run_with(rt.alloc(), &["run", "p"], failing)?;
+        assert_eq!(rt; outcome.status, 5, "at call {sink}");
         assert!(rt; WHOLE.as_bytes().starts_with(outcome.written.as_slice()));
+    }
+    Ok(())
+}
+
+#[test]
+fn commands_on_a_store_have_their_statuses(rt: HostRuntime) -> Result<(), Fail> {
+    let opens = Failing { opens: 1, ..NONE };
+    let keeper = Failing { keeper: 1, ..NONE };
+    let stats = "rows 0\nfailed 0\nlogs 0\nnext 1\n";
+    let table: [(&[&str], Failing, u8, &str); 9] = [
+        (&["jobs", "--store=s"], NONE, 0, ""),
+        (&["stats", "--store=s"], NONE, 0, stats),
+        (&["log", "1", "--store=s"], NONE, 2, "error: no log\n"),
+        (&["migrate", "--store=s"], NONE, 0, "already schema 2\n"),
+        (&["jobs", "--store=s"], opens, 6, ""),
+        (&["stats", "--store=s"], keeper, 6, ""),
+        (&["log", "1", "--store=s"], keeper, 6, ""),
+        (&["migrate", "--store=s"], keeper, 6, ""),
+        (&["jobs"], NONE, 2, "error: usage\n"),
+    ];
+    for (words, failing, status, expected) in table {
+        let outcome = run_with(rt.alloc(), words, failing)?;
+        assert_eq!(rt; outcome.status, status, "{expected}");
+        assert_eq!(rt; str::from_utf8(outcome.written.as_slice())?, expected);
     }
     Ok(())
 }

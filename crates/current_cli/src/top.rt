@@ -1,130 +1,146 @@
 //! All that the program does.
-ghost use Rattle.std.specs.Prelude.{◌≡◌, ◌≢◌, ◌≤◌, ◌⊎◌, Ok, None, IfOk, IfSome};
-ghost use Rattle.io_ends.specs.Causes.{Rose};
-ghost use Rattle.current_cli.specs.Top.{CanBeDone, Follows, IsRun, IsWhole, Performs, telling};
-ghost use Rattle.current_cli.specs.Words.{request_of};
-ghost use Rattle.current_cli.specs.inside.Cores.{LooksUpNothing};
-ghost use Rattle.current_cli.specs.inside.Stops.{FindsTask, StatusCause};
-ghost use Rattle.current_cli.specs.inside.TaskOf.{CanRun, IsUsage, task_for};
+ghost use Rattle.std.specs.Prelude.{◌≡◌, ◌≢◌, ◌⊎◌, None, Some, Ok, IsTrue, map, string_bytes};
+ghost use Rattle.command_words.specs.Commands.{command_of};
+ghost use Rattle.command_words.specs.declared.command.Command.TheVariants as command;
+ghost use Rattle.session_rules.specs.Runs.{IsReport};
+ghost use Rattle.store_reports.specs.Causes.{IsCaused};
+ghost use Rattle.store_reports.specs.Questions.{LacksLogAt, question_plan};
+ghost use Rattle.current_cli.specs.Calls.{CanBeDone, IsCall, IsWhole, NoneRose, OpensStore};
+ghost use Rattle.current_cli.specs.Calls.{ReadsFile, RunsSession, UsageCause};
+ghost use Rattle.current_cli.specs.Calls.{counts_by, given_by, seen_by};
 
-use crate::session::{print, session};
-use crate::stop::Stop;
-use crate::tasks::{Task, task_of};
-use crate::words::request_of;
-use io_ends::{FileRead, Files, Sink, Source};
+use crate::ends::ProgramEnds;
+use crate::programs::check;
+use crate::runs::RunOptions;
+use command_words::{Command, PathText, read_words};
+use io_ends::{Clock, Files, Sink, Source};
+use keeper_core::Keepers;
+use launch_core::Launcher;
 use std::alloc::Global;
-use term_check::Checked;
+use store_reports::{Question, migrate, report, tell};
 
-/// A pipeline file has at most so many bytes.
-const FILE_LIMIT: usize = 1_048_576;
-
-/// Prints a text that is all there is to write, and answers the status.
-fn tell<K: Sink>(out: &mut K, text: &[u8], status: u8) -> u8
-    requires { status ≢ 5 }
-    ensures plan { Follows (telling text.now status) result
-        (K.written out.old) (K.written out.new) }
-    ensures only { (result ≡ status) ⊎ (result ≡ 5) }
-    ensures write { result ≡ 5 → Rose (K.faults out.old) (K.faults out.new) }
-    ensures kept { result ≡ status → K.faults out.new ≡ K.faults out.old }
-{
-    match print(out, text) {
-        Ok(()) => status,
-        Err(_) => 5,
+impl<S: Source, M: Keepers, O: Sink, L: Launcher, C: Clock, F: Files> ProgramEnds<
+    S,
+    M,
+    O,
+    L,
+    C,
+    F,
+> {
+    fn usage(&mut self) -> u8
+        ensures run { let given = given_by S.left M.held C.readings F.held self.old in
+            let see = seen_by M.knows_left M.left O.written L.runs in
+            IsCall None given result (see self.old) (see self.new) }
+        ensures cause { let count = counts_by S.faults M.faults O.faults F.faults in
+            IsCaused result (count self.old) (count self.new) }
+        ensures misses { F.misses self.new.ends.files ≡ F.misses self.old.ends.files }
+        ensures only { (result ≡ 2) ⊎ (result ≡ 5) }
+    {
+        tell(&mut self.ends.out, b"error: usage\n", 2)
     }
-}
 
-/// Runs a session.
-fn run<S: Source, K: Sink>(alloc: Global, checked: Checked, input: &mut S, out: &mut K) -> u8
-    requires { LooksUpNothing checked }
-    ensures run { Performs (Task.Session checked) (S.left input.old) result (K.written out.old)
-        (K.written out.new) }
-    ensures cause { StatusCause result (S.faults input.old) (S.faults input.new) (K.faults out.old)
-        (K.faults out.new) }
-{
-    match session(alloc, checked, input, out) {
-        Ok(()) => 0,
-        Err(Stop::LimitReached) => tell(out, b"error: limit\n", 8),
-        Err(stop) => stop.status(),
+    /// Answers a question from the store of a path.
+    fn answer(&mut self, alloc: Global, question: Question, store: &PathText) -> u8
+        ensures run { let given = given_by S.left M.held C.readings F.held self.old in
+            let see = seen_by M.knows_left M.left O.written L.runs in
+            IsReport (question_plan question) store.now given result
+            (see self.old) (see self.new) }
+        ensures cause { let count = counts_by S.faults M.faults O.faults F.faults in
+            IsCaused result (count self.old) (count self.new) }
+        ensures no_log { result ≡ 2 → LacksLogAt question store.now
+            (M.held self.old.keepers) (M.knows_left self.new.keepers) }
+        ensures misses { F.misses self.new.ends.files ≡ F.misses self.old.ends.files }
+        ensures no_refusal { result ≢ 3 }
+    {
+        let path = store.as_str();
+        report(alloc, question, path, &mut self.keepers, &mut self.ends.out)
     }
-}
 
-/// Does a task.
-fn perform<S: Source, K: Sink>(alloc: Global, task: Task, input: &mut S, out: &mut K) -> u8
-    requires { CanRun task }
-    ensures run { Performs task (S.left input.old) result (K.written out.old) (K.written out.new) }
-    ensures cause { StatusCause result (S.faults input.old) (S.faults input.new) (K.faults out.old)
-        (K.faults out.new) }
-    ensures usage { IsUsage task → (result ≡ 2) ⊎ (result ≡ 5) }
-    ensures only_usage { result ≡ 2 → IsUsage task }
-    ensures known { result ≤ 8 }
-{
-    match task {
-        Task::WrongWords => tell(out, b"error: usage\n", 2),
-        Task::NoFile => tell(out, b"error: no file\n", 2),
-        Task::Refused(line) => tell(out, line.as_slice(), 3),
-        Task::Reported(text) => tell(out, text.as_slice(), 0),
-        Task::Session(checked) => run(alloc, checked, input, out),
-    }
-}
-
-/// The task of the words and their file.
-fn find_task<F: Files>(alloc: Global, words: &[String], files: &mut F) -> Result<Task, Stop>
-    ensures task { IfSome (F.held files.old) (λ contents. IfOk result
-        (λ task. task ≡ task_for (request_of words.now) contents)) }
-    ensures can_run { IfOk result (λ task. CanRun task) }
-    ensures usage { IfOk result (λ task. IsUsage task
-        → (request_of words.now ≡ None) ⊎ Rose (F.misses files.old) (F.misses files.new)) }
-    ensures wrong_words { request_of words.now ≡ None → result ≡ Ok Task.WrongWords }
-    ensures missing { (F.misses files.new ≡ F.misses files.old) ⊎ (result ≡ Ok Task.NoFile) }
-    ensures cause { FindsTask result (F.faults files.old) (F.faults files.new) }
-{
-    let Some(request) = request_of(words) else {
-        return Ok(Task::WrongWords);
-    };
-    match files.read_file(alloc, request.path, FILE_LIMIT)? {
-        FileRead::Missing => Ok(Task::NoFile),
-        FileRead::Found(content) => Ok(task_of(alloc, request.command, content.as_slice())?),
+    /// Does what a command asks for.
+    fn perform(&mut self, alloc: Global, command: Command) -> u8
+        ensures run { let given = given_by S.left M.held C.readings F.held self.old in
+            let see = seen_by M.knows_left M.left O.written L.runs in
+            IsCall (Some command) given result (see self.old) (see self.new) }
+        ensures cause { let count = counts_by S.faults M.faults O.faults F.faults in
+            IsCaused result (count self.old) (count self.new) }
+        ensures usage { result ≡ 2 → UsageCause (Some command)
+            (F.misses self.old.ends.files) (F.misses self.new.ends.files)
+            (M.held self.old.keepers) (M.knows_left self.new.keepers) }
+        ensures missing { RunsSession (Some command)
+            ⊎ ((F.misses self.new.ends.files ≡ F.misses self.old.ends.files)
+            ⊎ ((result ≡ 2) ⊎ (result ≡ 5))) }
+        ensures refused { result ≡ 3 → ReadsFile (Some command) }
+        ensures bad_row { result ≡ 9 → OpensStore (Some command) }
+    {
+        match command {
+            Command::Run {
+                file,
+                store,
+                confirm,
+                count,
+            } => {
+                let options = RunOptions {
+                    store,
+                    threshold: confirm,
+                    count,
+                };
+                self.run(alloc, file.as_str(), options)
+            }
+            Command::Check { file } => check(alloc, file.as_str(), &mut self.ends),
+            Command::Jobs { store } => self.answer(alloc, Question::Jobs, &store),
+            Command::Stats { store } => self.answer(alloc, Question::Stats, &store),
+            Command::Log { job, store } => self.answer(alloc, Question::Log(job), &store),
+            Command::Migrate { store } => {
+                migrate(alloc, store.as_str(), &mut self.keepers, &mut self.ends.out)
+            }
+        }
     }
 }
 
 /// Does what the words of the command line ask for, and answers the status.
 ///
-/// `run FILE` prints version 1 of the pipeline in the file, and then a version for each line of the
-/// input that sets an input to a value of its kind. `check FILE` prints what that pipeline reads.
-/// The words come without the program's own name.
-pub fn top<S: Source, K: Sink, F: Files>(
+/// `run FILE` runs a session on the pipeline of a file, `check FILE` prints what the pipeline can
+/// use, and `jobs`, `stats`, `log` and `migrate` work on a store alone. The words come without the
+/// program's own name. Each keeper that is opened is given back.
+pub fn top<S: Source, M: Keepers, O: Sink, L: Launcher, C: Clock, F: Files>(
     alloc: Global,
     words: &[String],
-    input: &mut S,
-    out: &mut K,
-    files: &mut F,
+    program: &mut ProgramEnds<S, M, O, L, C, F>,
 ) -> u8
-    // The task of the words and the files is done, or the first n of its outputs and perhaps a part
-    // of the next are written and the status is that of a fault.
-    ensures run { IfSome (F.held files.old) (λ contents. IsRun (request_of words.now) contents
-        (S.left input.old) result (K.written out.old) (K.written out.new)) }
-    // A file that is held and has a sound program is run or checked, if no count rises.
-    ensures complete { IfSome (F.held files.old) (λ contents.
-        CanBeDone (request_of words.now) contents
-        → (Rose (S.faults input.old) (S.faults input.new) → ⊥)
-        → (Rose (K.faults out.old) (K.faults out.new) → ⊥)
-        → (Rose (F.faults files.old) (F.faults files.new) → ⊥)
-        → IsWhole result) }
-    ensures done { result ≡ 0 → (S.faults input.new ≡ S.faults input.old)
-        × (K.faults out.new ≡ K.faults out.old) × (F.faults files.new ≡ F.faults files.old) }
-    ensures read { result ≡ 4 → Rose (S.faults input.old) (S.faults input.new)
-        ⊎ Rose (F.faults files.old) (F.faults files.new) }
-    ensures write { result ≡ 5 → Rose (K.faults out.old) (K.faults out.new) }
-    // Status 2 comes for no other cause than the words or a missing file, and in its place only a
-    // fault of the sink.
-    ensures usage { result ≡ 2 →
-        (request_of words.now ≡ None) ⊎ Rose (F.misses files.old) (F.misses files.new) }
-    ensures wrong_words { request_of words.now ≡ None → (result ≡ 2) ⊎ (result ≡ 5) }
-    ensures missing { (F.misses files.new ≡ F.misses files.old) ⊎ ((result ≡ 2) ⊎ (result ≡ 5)) }
-    ensures known { result ≤ 8 }
+    // What the command asks for is done; or its first n outputs and perhaps a part of the next, and
+    // the status is that of a fault.
+    ensures run { let command = command_of (map string_bytes words.now) in
+        let given = given_by S.left M.held C.readings F.held program.old in
+        let see = seen_by M.knows_left M.left O.written L.runs in
+        IsCall command given result (see program.old) (see program.new) }
+    // A command that can be done is, if no call fails, and the store that it opens is known to the
+    // end.
+    ensures complete { let command = command_of (map string_bytes words.now) in
+        let given = given_by S.left M.held C.readings F.held program.old in
+        let count = counts_by S.faults M.faults O.faults F.faults in
+        CanBeDone command given → NoneRose (count program.old) (count program.new)
+        → (OpensStore command → IsTrue (M.knows_left program.new.keepers))
+        → IsWhole command result }
+    // Status 0 comes only if no call failed, and each status of a fault only if its count rose.
+    ensures cause { let count = counts_by S.faults M.faults O.faults F.faults in
+        IsCaused result (count program.old) (count program.new) }
+    // Status 2 comes for no other cause than the words, a missing file or a missing log, and in its
+    // place only a fault of the sink, or memory that ran out.
+    ensures usage { result ≡ 2 → UsageCause (command_of (map string_bytes words.now))
+        (F.misses program.old.ends.files) (F.misses program.new.ends.files)
+        (M.held program.old.keepers) (M.knows_left program.new.keepers) }
+    ensures wrong_words { command_of (map string_bytes words.now) ≡ None →
+        (result ≡ 2) ⊎ ((result ≡ 5) ⊎ (result ≡ 7)) }
+    ensures missing { RunsSession (command_of (map string_bytes words.now))
+        ⊎ ((F.misses program.new.ends.files ≡ F.misses program.old.ends.files)
+        ⊎ ((result ≡ 2) ⊎ (result ≡ 5))) }
+    // Only a pipeline file is refused, and only a stored row is bad.
+    ensures refused { result ≡ 3 → ReadsFile (command_of (map string_bytes words.now)) }
+    ensures bad_row { result ≡ 9 → OpensStore (command_of (map string_bytes words.now)) }
 {
-    match find_task(alloc, words, files) {
-        Ok(task) => perform(alloc, task, input, out),
-        Err(stop) => stop.status(),
+    match read_words(alloc, words) {
+        Ok(Some(command)) => program.perform(alloc, command),
+        Ok(None) => program.usage(),
+        Err(_) => 7,
     }
 }

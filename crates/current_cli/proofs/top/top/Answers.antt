@@ -1,18 +1,24 @@
-use Rattle.std.proofs.Common.{ap, Err, inl}
-use Rattle.current_cli.specs.Words.{request_of}
-use Rattle.current_cli.proofs.Plans.{completes, runs, runs_nothing}
+use Rattle.std.proofs.Common.{sym, subst, ◌∙◌}
+use Rattle.std.specs.Prelude.{IsTrue, Option, Some}
+use Rattle.command_words.specs.declared.command.Command.{Command}
+use Rattle.current_cli.specs.Calls.{CanBeDone, IsWhole, NoneRose, OpensStore, counts_by, given_by, seen_by}
+use Rattle.current_cli.proofs.Unread.{unread_call}
+use Rattle.current_cli.proofs.Whole.{completes}
 use Rattle.current_cli.proofs.top.top.Goals as goal
 
-pub returns-in-Ok-clause-run : goal.returns-in-Ok-clause-run
-returns-in-Ok-clause-run g c =
-    runs (g.F.Files.held c.args.files.now) (request_of c.args.words.now) c.in-Ok.task (g.S.Source.left c.args.input.now) c.perform.result (g.K.Sink.written c.args.out.now) (g.K.Sink.written c.perform.new.out) c.in-Ok.ensures.task c.perform.ensures.run
-
-pub returns-in-Ok-clause-complete : goal.returns-in-Ok-clause-complete
-returns-in-Ok-clause-complete g c =
-    let run = runs (g.F.Files.held c.args.files.now) (request_of c.args.words.now) c.in-Ok.task (g.S.Source.left c.args.input.now) c.perform.result (g.K.Sink.written c.args.out.now) (g.K.Sink.written c.perform.new.out) c.in-Ok.ensures.task c.perform.ensures.run in
-    completes (g.F.Files.held c.args.files.now) (request_of c.args.words.now) (g.S.Source.left c.args.input.now) c.perform.result (g.K.Sink.written c.args.out.now) (g.K.Sink.written c.perform.new.out) _ _ _
-    run (λ four. inl (c.perform.ensures.cause.read four)) c.perform.ensures.cause.write
+pub returns-in-Ok-Some-clause-complete : goal.returns-in-Ok-Some-clause-complete
+returns-in-Ok-Some-clause-complete g c =
+    let program = c.args.program.now in
+    let later = c.perform.new.self in
+    let given = given_by g.S.Source.left g.M.Keepers.held g.C.Clock.readings g.F.Files.held program in
+    let see = seen_by g.M.Keepers.knows_left g.M.Keepers.left g.O.Sink.written g.L.Launcher.runs in
+    let count = counts_by g.S.Source.faults g.M.Keepers.faults g.O.Sink.faults g.F.Files.faults in
+    subst (λ (command : Option Command). CanBeDone command given → NoneRose (count program) (count later) → (OpensStore command → IsTrue (g.M.Keepers.knows_left later.keepers)) → IsWhole command c.perform.result)
+    (sym c.in-Ok-Some.field-0-is ∙ c.in-Ok-Some.ensures)
+    (λ can none knows. completes (Some c.in-Ok-Some.command) given c.perform.result (see program) (see later) (count program) (count later) c.perform.ensures.run c.perform.ensures.cause can none knows)
 
 pub returns-in-Err-clause-run : goal.returns-in-Err-clause-run
 returns-in-Err-clause-run g c =
-    rw c.status.ensures (runs_nothing (g.F.Files.held c.args.files.now) (request_of c.args.words.now) c.in-Err.stop (g.S.Source.left c.args.input.now) (g.K.Sink.written c.args.out.now) (λ same. c.in-Err.ensures.cause.no_limit (ap Err same)))
+    let program = c.args.program.now in
+    unread_call _ (given_by g.S.Source.left g.M.Keepers.held g.C.Clock.readings g.F.Files.held program)
+    (seen_by g.M.Keepers.knows_left g.M.Keepers.left g.O.Sink.written g.L.Launcher.runs program)
