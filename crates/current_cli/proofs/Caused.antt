@@ -1,5 +1,5 @@
 -- Where the status of a session comes from.
-use Rattle.std.proofs.Common.{◌≡◌, ℕ, List, ◌≤◌, refl, ap, ◌∙◌, subst, arith, inl, inr}
+use Rattle.std.proofs.Common.{◌≡◌, ℕ, List, refl, ap, ◌∙◌, subst, arith, inl, inr}
 use Rattle.std.specs.Prelude.{◌⊎◌, true, false, Bool, nat_lt, if◌then◌else◌}
 use Rattle.io_ends.specs.Causes.{Rose, SinkSide, raised}
 use Rattle.keeper_core.specs.KeeperCalls.{counted}

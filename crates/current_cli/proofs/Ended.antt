@@ -1,6 +1,6 @@
 -- A session and the line of its end.
 use Rattle.std.proofs.Common.{◌≡◌, ℕ, ◌≤◌, List, [], ◌∷◌, ◌++◌, take, drop, refl, sym, ap, subst, ◌∙◌, arith, inl, inr}
-use Rattle.std.specs.Prelude.{◌⊎◌, IsTrue, IfSome, Option, Some, None}
+use Rattle.std.specs.Prelude.{IsTrue, Option, Some, None}
 use Rattle.std.specs.Io.KnownBytes.{Appends}
 use Rattle.std.proofs.lemmas.List.{append-nil, take-append-drop}
 use Rattle.io_ends.specs.Causes.{SinkSide}
@@ -8,10 +8,10 @@ use Rattle.keeper_core.specs.declared.stored.Stored.{Stored}
 use Rattle.keeper_core.specs.declared.tables.Tables.{Tables}
 use Rattle.report_text.specs.FaultLines.{limit_line}
 use Rattle.session_rules.specs.Commands.{end_outputs, end_status}
-use Rattle.session_rules.specs.Outputs.{Print, texts}
+use Rattle.session_rules.specs.Outputs.{Print}
 use Rattle.session_rules.specs.Outside.{LeavesTables, Outside, Stopped}
 use Rattle.session_rules.specs.Runs.{FollowsOn, Seen}
-use Rattle.session_rules.specs.Sessions.{Finishes, Halts, IsSession, Script, end_reached}
+use Rattle.session_rules.specs.Sessions.{Finishes, IsSession, Script, end_reached}
 use Rattle.session_rules.specs.StoreTexts.{bad_row_line}
 use Rattle.session_rules.specs.Transcripts.{End, Quits, Limit, Bad}
 use Rattle.session_rules.specs.declared.ends.SessionEnd.{SessionEnd}

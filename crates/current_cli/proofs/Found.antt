@@ -1,9 +1,8 @@
 -- Commands on a pipeline file, by what it is found to be.
-use Rattle.std.proofs.Common.{◌≡◌, ℕ, ◌≤◌, List, [], refl, sym, ap, subst, ◌∙◌, arith, inl, inr}
-use Rattle.std.specs.Prelude.{◌⊎◌, Bool, true, false, if◌then◌else◌, IsTrue, IfSome, Option, Some, None, Result, Ok, Err, codes}
-use Rattle.std.specs.Str.{bytes_eq}
+use Rattle.std.proofs.Common.{◌≡◌, ℕ, List, refl, sym, ap, subst, ◌∙◌, arith, inl, inr}
+use Rattle.std.specs.Prelude.{◌⊎◌, Bool, true, false, IsTrue, IfSome, Option, Some, None, codes}
 use Rattle.io_ends.specs.Causes.{SinkSide}
-use Rattle.io_ends.specs.Known.{Contents, TakesContent, content_now, contents_later}
+use Rattle.io_ends.specs.Known.{Contents, TakesContent, content_now}
 use Rattle.op_keys.specs.declared.level.Level.{Level}
 use Rattle.op_keys.specs.declared.order.Exit.{Exit}
 use Rattle.op_keys.specs.declared.order.Order.{Order}

@@ -6,7 +6,6 @@ use Rattle.std.proofs.lemmas.List.{length-take, take_all}
 use Rattle.io_ends.specs.Known.{Contents, content_now, IsReadOf}
 use Rattle.io_ends.specs.declared.ends.FileRead.TheVariants as read
 use Rattle.term_core.specs.declared.program.Program.{Program}
-use Rattle.term_core.specs.Soundness.{IsSound}
 use Rattle.pipe_text.specs.inside.FileReading.{pipeline_of, read_of, reported_of}
 use Rattle.pipe_text.specs.Files.{IsFileOf}
 use Rattle.pipe_text.specs.declared.fault.Fault.{Fault}

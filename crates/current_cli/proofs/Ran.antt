@@ -1,16 +1,15 @@
 -- A session as the plan of `run`, followed so far.
-use Rattle.std.proofs.Common.{◌≡◌, ℕ, ◌≤◌, List, [], ◌∷◌, ◌++◌, take, drop, refl, sym, ap, subst, ◌∙◌, append_assoc, arith, inl, inr}
-use Rattle.std.specs.Prelude.{◌⊎◌, true, false, IsTrue, IfSome, Option, Some, None}
+use Rattle.std.proofs.Common.{◌≡◌, ℕ, ◌≤◌, List, [], ◌∷◌, ◌++◌, refl, sym, ap, subst, ◌∙◌, append_assoc, arith, inl, inr}
+use Rattle.std.specs.Prelude.{◌⊎◌, true, false, IsTrue, Option, Some, None}
 use Rattle.std.specs.Io.KnownBytes.{Appends}
-use Rattle.std.proofs.lemmas.List.{append-nil, take-append-drop}
+use Rattle.std.proofs.lemmas.List.{append-nil}
 use Rattle.op_keys.specs.declared.order.Exit.{Exit}
 use Rattle.core_rules.specs.declared.done.Delta.{Delta}
 use Rattle.keeper_core.specs.declared.stored.Stored.{Stored}
 use Rattle.keeper_core.specs.declared.tables.Tables.{Tables}
-use Rattle.keeper_core.specs.EitherSchema.{loaded_of}
 use Rattle.session_rules.specs.Commands.{Plan, after_opening, end_outputs, end_status, session_plan, with_tables}
 use Rattle.session_rules.specs.Outputs.{Output, Print, deltas, exits, runs, texts}
-use Rattle.session_rules.specs.Outside.{Did, Grows, IsPart, LeavesTables, Outside, Stopped, with_deltas}
+use Rattle.session_rules.specs.Outside.{Did, LeavesTables, Outside, Stopped, with_deltas}
 use Rattle.session_rules.specs.Runs.{FollowsOn, LeavesNoMore, LeavesOf, Seen}
 use Rattle.session_rules.specs.Sessions.{Finishes, Halts, Script}
 use Rattle.session_rules.specs.Transcripts.{End, Quits, Limit, Bad, Transcript}

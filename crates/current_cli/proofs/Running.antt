@@ -1,6 +1,6 @@
 -- A session on a program, over the store that is opened for it.
-use Rattle.std.proofs.Common.{◌≡◌, ℕ, ◌≤◌, List, [], refl, sym, ap, subst, ◌∙◌, arith, inl, inr}
-use Rattle.std.specs.Prelude.{◌⊎◌, ◌&&◌, Bool, true, false, IsTrue, IfSome, is_some, Option, Some, None}
+use Rattle.std.proofs.Common.{◌≡◌, ℕ, ◌≤◌, List, refl, sym, subst, arith}
+use Rattle.std.specs.Prelude.{◌&&◌, Bool, true, false, IsTrue, IfSome, is_some, Option, Some, None}
 use Rattle.io_ends.specs.Causes.{SinkSide}
 use Rattle.io_ends.specs.Known.{Contents}
 use Rattle.op_keys.specs.declared.level.Level.{Level}

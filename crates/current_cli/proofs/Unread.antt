@@ -1,9 +1,8 @@
 -- A call whose words weren't read, since memory ran out: whatever they ask for, nothing was done.
-use Rattle.std.proofs.Common.{◌≡◌, ℕ, List, refl, inl, inr}
+use Rattle.std.proofs.Common.{ℕ, List, refl, inr}
 use Rattle.std.specs.Prelude.{IfSome, Option, Some, None}
 use Rattle.io_ends.specs.Causes.{SinkSide}
 use Rattle.io_ends.specs.Known.{Contents, content_now}
-use Rattle.keeper_core.specs.declared.stored.Stored.{Stored}
 use Rattle.session_rules.specs.Commands.{File, Missing, Refused, Sound}
 use Rattle.session_rules.specs.Runs.{Given, IsReport, Seen}
 use Rattle.session_core.specs.Numbers.{counting as counting_of}

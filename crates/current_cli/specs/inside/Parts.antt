@@ -1,6 +1,5 @@
 -- What the parts of a command promise.
-use Rattle.std.specs.Prelude.{◌≡◌, ◌⊎◌, ◌≤◌, ℕ, List, Option, Some, None, IfSome, Result, Ok, Err}
-use Rattle.std.specs.Io.KnownBytes.{Appends}
+use Rattle.std.specs.Prelude.{◌≡◌, ◌⊎◌, ◌≤◌, ℕ, List, Option, IfSome, Result, Ok, Err}
 use Rattle.io_ends.specs.Causes.{Rose, SinkSide}
 use Rattle.io_ends.specs.Known.{Contents, content_now}
 use Rattle.term_core.specs.declared.program.Program.{Program}
@@ -8,7 +7,7 @@ use Rattle.report_text.specs.FaultLines.{limit_line}
 use Rattle.session_rules.specs.StoreTexts.{bad_row_line}
 use Rattle.session_rules.specs.declared.ends.SessionEnd.{SessionEnd}
 use Rattle.session_rules.specs.declared.ends.SessionEnd.TheVariants as end
-use Rattle.store_reports.specs.Causes.{Counts, Tells, TellsOrNot}
+use Rattle.store_reports.specs.Causes.{Tells, TellsOrNot}
 use Rattle.session_rules.specs.Commands.{File, Sound}
 use Rattle.current_cli.specs.Calls.{report}
 use Rattle.current_cli.specs.inside.FileFound.{Refuses, Unread, file_found}
