@@ -24,6 +24,17 @@ fn words_of<R: std::rt::Env + AllocGlobal>(rt: &R) -> io::Result<Vec<String>> {
     Ok(env::args(rt)?.skip(1).collect(rt.alloc())?)
 }
 
+/// What standard error says of a status for which nothing is printed.
+fn trouble_of(status: u8) -> Option<&'static str> {
+    match status {
+        4 => Some("error: the input or a file can't be read"),
+        5 => Some("error: standard output can't be written"),
+        6 => Some("error: the store failed, or is no store"),
+        7 => Some("error: out of memory"),
+        _ => None,
+    }
+}
+
 fn main(rt: HostRuntime) -> ExitCode {
     let words = match words_of(&rt) {
         Ok(words) => words,
@@ -41,5 +52,9 @@ fn main(rt: HostRuntime) -> ExitCode {
         },
     };
     let status = top(rt.alloc(), words.as_slice(), &mut program);
+    if let Some(trouble) = trouble_of(status) {
+        // The status says the same, so nothing is lost if this can't be written.
+        let _ = eprintln!(rt; "{trouble}");
+    }
     ExitCode::from(status)
 }

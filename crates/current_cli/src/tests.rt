@@ -3,10 +3,12 @@ use crate::ends::ProgramEnds;
 use crate::top::top;
 use io_ends::{ClockInMemory, FilesInMemory, HeldFile, SinkInMemory, SourceInMemory};
 use keeper_core::{FailingCall, Failure, MemKeepers};
-use launch_core::EchoLauncher;
+use launch_core::LauncherInMemory;
+use op_keys::Exit;
 use session_core::Ends;
 use std::alloc::{AllocError, Global};
 use std::test::Fail;
+use value_core::ListOf;
 
 const FILE: &str = "pipeline 1\ninput head text \"a\"\nnode tip (input head)\n";
 
@@ -15,6 +17,10 @@ const LINES: &str = "set head \"b\"\n";
 const OPENING: &str = "version 1\ntip: ok \"a\"\n";
 
 const WHOLE: &str = "version 1\ntip: ok \"a\"\nversion 2\ntip: ok \"b\"\n";
+
+/// The input is built, one job for each of its values.
+const BUILDING: &str =
+    "pipeline 1\ninput head text \"a\"\npool p hold 0\nclient c p 1\nworker w p 1\nop f build pool p client c cost 1 0 run \"f\" \"{key}\"\nnode tip (build f (input head))\n";
 
 /// What a run wrote, and its status.
 #[derive(Drop)]
@@ -31,6 +37,7 @@ struct Failing {
     sink: u64,
     opens: u64,
     keeper: u64,
+    launcher: u64,
 }
 
 const NONE: Failing = Failing {
@@ -39,16 +46,36 @@ const NONE: Failing = Failing {
     sink: 0,
     opens: 0,
     keeper: 0,
+    launcher: 0,
 };
 
-fn files_of(alloc: Global, failing: u64) -> Result<FilesInMemory, AllocError> {
-    let content = Vec::from_slice(alloc, FILE.as_bytes())?;
-    let held = HeldFile {
-        path: String::from_str(alloc, "p")?,
+fn held_file(alloc: Global, path: &str, text: &str) -> Result<HeldFile, AllocError> {
+    let content = Vec::from_slice(alloc, text.as_bytes())?;
+    Ok(HeldFile {
+        path: String::from_str(alloc, path)?,
         contents: vec![in alloc; content]?,
-    };
-    let files = vec![in alloc; held]?;
+    })
+}
+
+fn files_of(alloc: Global, failing: u64) -> Result<FilesInMemory, AllocError> {
+    let nodes = held_file(alloc, "p", FILE)?;
+    let building = held_file(alloc, "q", BUILDING)?;
+    let files = vec![in alloc; nodes, building]?;
     Ok(FilesInMemory::new(files, vec![in alloc; failing]?))
+}
+
+/// Two runs print `one`, but for the one that fails.
+fn launcher_of(alloc: Global, failing: u64) -> Result<LauncherInMemory, AllocError> {
+    let mut exits = Vec::new(alloc);
+    for run in 1..3u64 {
+        let output = ListOf::from_vec(Vec::from_slice(alloc, b"one")?);
+        let ended = Exit::Ended {
+            code: Some(0),
+            output,
+        };
+        exits.push(if run == failing { Exit::Fault } else { ended })?;
+    }
+    Ok(LauncherInMemory::new(alloc, exits))
 }
 
 fn keepers_of(alloc: Global, failing: Failing) -> Result<MemKeepers, AllocError> {
@@ -65,7 +92,7 @@ fn keepers_of(alloc: Global, failing: Failing) -> Result<MemKeepers, AllocError>
     Ok(MemKeepers::new(alloc, Vec::new(alloc), opens, calls))
 }
 
-/// Runs a command over ends that take and give a few bytes at a time.
+/// Runs a command over ends that give a byte and take five bytes at a time.
 fn run_with(alloc: Global, words: &[&str], failing: Failing) -> Result<Outcome, AllocError> {
     let mut given = Vec::new(alloc);
     for word in words {
@@ -73,11 +100,11 @@ fn run_with(alloc: Global, words: &[&str], failing: Failing) -> Result<Outcome, 
     }
     let lines = Vec::from_slice(alloc, LINES.as_bytes())?;
     let mut program = ProgramEnds {
-        input: SourceInMemory::new(lines, 3, vec![in alloc; failing.source]?),
+        input: SourceInMemory::new(lines, 1, vec![in alloc; failing.source]?),
         keepers: keepers_of(alloc, failing)?,
         ends: Ends {
             out: SinkInMemory::new(alloc, 1 << 10, 5, vec![in alloc; failing.sink]?)?,
-            launcher: EchoLauncher::new(alloc),
+            launcher: launcher_of(alloc, failing.launcher)?,
             clock: ClockInMemory::new(Vec::new(alloc)),
             files: files_of(alloc, failing.files)?,
         },
@@ -90,11 +117,8 @@ fn run_with(alloc: Global, words: &[&str], failing: Failing) -> Result<Outcome, 
 #[test]
 fn an_end_that_fails_has_its_status(rt: HostRuntime) -> Result<(), Fail> {
     // A keeper loads its tables, and then commits the opening and each version before it is shown.
-    let table: [(Failing, u8, &str); 9] = [
+    let table: [(Failing, u8, &str); 6] = [
         (Failing { files: 1, ..NONE }, 4, ""),
-        (Failing { source: 1, ..NONE }, 4, OPENING),
-        (Failing { source: 2, ..NONE }, 4, OPENING),
-        (Failing { source: 6, ..NONE }, 4, WHOLE),
         (Failing { opens: 1, ..NONE }, 6, ""),
         (Failing { keeper: 1, ..NONE }, 6, ""),
         (Failing { keeper: 2, ..NONE }, 6, ""),
@@ -105,6 +129,42 @@ fn an_end_that_fails_has_its_status(rt: HostRuntime) -> Result<(), Fail> {
         let outcome = run_with(rt.alloc(), &["run", "p", "--store=s"], failing)?;
         assert_eq!(rt; outcome.status, status, "{expected}");
         assert_eq!(rt; str::from_utf8(outcome.written.as_slice())?, expected);
+    }
+    Ok(())
+}
+
+#[test]
+fn an_input_that_fails_ends_the_session_between_two_lines(rt: HostRuntime) -> Result<(), Fail> {
+    // The line takes 13 calls, and the next one finds the end.
+    for source in 1..15u64 {
+        let failing = Failing { source, ..NONE };
+        let outcome = run_with(rt.alloc(), &["run", "p"], failing)?;
+        let expected = if source < 14 { OPENING } else { WHOLE };
+        assert_eq!(rt; outcome.status, 4, "at call {source}");
+        assert_eq!(rt; str::from_utf8(outcome.written.as_slice())?, expected);
+    }
+    Ok(())
+}
+
+#[test]
+fn a_session_goes_on_after_a_run_that_fails(rt: HostRuntime) -> Result<(), Fail> {
+    let fine = "end 1 ok\nversion 3\ntip: ok \"one\"\n";
+    let failed = "end 1 failed \"cannot run\"\nversion 3\ntip: failed \"cannot run\" at tip\n";
+    let later = "end 2 ok\nversion 6\ntip: ok \"one\"\n";
+    let later_failed =
+        "end 2 failed \"cannot run\"\nversion 6\ntip: failed \"cannot run\" at tip\n";
+    let table: [(u64, &str, &str); 3] = [
+        (0, fine, later),
+        (1, failed, later),
+        (2, fine, later_failed),
+    ];
+    for (launcher, first, second) in table {
+        let failing = Failing { launcher, ..NONE };
+        let outcome = run_with(rt.alloc(), &["run", "q"], failing)?;
+        let text = str::from_utf8(outcome.written.as_slice())?;
+        assert_eq!(rt; outcome.status, 0, "run {launcher}");
+        assert!(rt; text.contains(first), "run {launcher}");
+        assert!(rt; text.ends_with(second), "run {launcher}");
     }
     Ok(())
 }
