@@ -10,7 +10,8 @@ import tempfile
 from running import laid_out
 
 BELOW = ["value_core", "op_keys", "term_core", "sched_rows", "fair_pool", "core_rules", "job_core", "pipe_text",
-         "term_check", "engine_rules", "keeper_core", "io_ends", "scope_pool", "dep_index", "incr_eval", "engine_core"]
+         "term_check", "engine_rules", "keeper_core", "io_ends", "scope_pool", "dep_index", "visit_rules", "incr_eval",
+         "engine_core"]
 WHAT = ["an input is set", "a job is confirmed", "a tick"]
 EVENTS = 20
 ORDERS = 5

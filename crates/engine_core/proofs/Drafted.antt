@@ -35,8 +35,8 @@ use Rattle.engine_rules.proofs.KeptRows.{wants_are_declared}
 use Rattle.engine_rules.proofs.StepParts.{puts_at_times}
 use Rattle.engine_rules.proofs.TouchedTriples.{differing_are_touched, inputs_kept}
 use Rattle.incr_eval.specs.Plans.{PlanView}
-use Rattle.incr_eval.specs.Visits.{all_wants}
-use Rattle.incr_eval.specs.declared.changes.Changes.{Changes}
+use Rattle.visit_rules.specs.Visits.{all_wants}
+use Rattle.visit_rules.specs.declared.changes.Changes.{Changes}
 use Rattle.engine_core.specs.Plans.{HasInput}
 use Rattle.engine_core.specs.State.{IsEngineLawful}
 use Rattle.engine_core.specs.declared.storing.Draft.{Draft}

@@ -4,9 +4,9 @@ use Rattle.std.specs.Prelude.{IfErr, IfOk, IsErrAnd, OnOk}
 use Rattle.value_core.specs.declared.value.Value.{Value}
 use Rattle.term_core.specs.World.{World}
 use Rattle.term_core.specs.declared.program.Program.{Program}
-use Rattle.incr_eval.specs.Plans.{CoversChanges}
-use Rattle.incr_eval.specs.declared.changes.Changes.{Changes}
-use Rattle.incr_eval.specs.declared.visit.Visit.{Visit}
+use Rattle.visit_rules.specs.Differences.{CoversChanges}
+use Rattle.visit_rules.specs.declared.changes.Changes.{Changes}
+use Rattle.visit_rules.specs.declared.visit.Visit.{Visit}
 
 pub covers_along : (c : Changes) (p p' : Program) (vs vs' : List Visit) (xs xs' : List Value) (w w' : World) → p' ≡ p → vs' ≡ vs → xs' ≡ xs → w' ≡ w → CoversChanges p' vs' c xs' w' → CoversChanges p vs c xs w
 covers_along c p p' vs vs' xs xs' w w' e f g h k =

@@ -9,7 +9,7 @@ use Rattle.core_rules.proofs.Programs.{step_program}
 use Rattle.engine_rules.specs.Touched.{KeptFor, kept_made}
 use Rattle.engine_rules.proofs.BoundedStates.{bounds_through_steps}
 use Rattle.engine_rules.proofs.KeptRows.{kept_through_changes}
-use Rattle.incr_eval.specs.declared.visit.Visit.{Visit}
+use Rattle.visit_rules.specs.declared.visit.Visit.{Visit}
 use Rattle.engine_core.specs.Plans.{IsChangeFor, changed_by}
 use Rattle.engine_core.specs.State.{EngineState}
 use Rattle.engine_core.specs.declared.planned.StepChange.{StepChange}

@@ -47,14 +47,14 @@ use Rattle.engine_rules.specs.Proper.{IsProperDurable}
 use Rattle.engine_rules.proofs.BoundedStates.{bounds_at_opening}
 use Rattle.engine_rules.proofs.RepliedBefore.{agreement_lasts, opening_replies_before}
 use Rattle.engine_rules.proofs.StepParts.{opened_by_parts, unopened_by_parts}
-use Rattle.incr_eval.specs.Traces.{traces}
-use Rattle.incr_eval.specs.Visits.{all_wants, states}
-use Rattle.incr_eval.specs.declared.visit.Visit.{Visit}
+use Rattle.visit_rules.specs.Traces.{traces}
+use Rattle.visit_rules.specs.Visits.{all_wants, states}
+use Rattle.visit_rules.specs.declared.visit.Visit.{Visit}
 use Rattle.engine_core.specs.Evaluated.{trees_of}
 use Rattle.engine_core.specs.inside.Keeping.{AreKept}
 use Rattle.engine_core.specs.declared.engine.opening.FirstReply.{FirstReply}
 use Rattle.engine_core.proofs.Drafted.{agree_self}
-use Rattle.incr_eval.proofs.AllNodes.{each_node}
+use Rattle.visit_rules.proofs.AllNodes.{each_node}
 use Rattle.job_core.proofs.Served.{pool_found}
 use Rattle.engine_core.proofs.SameTrees.{same_trees}
 use Rattle.engine_core.proofs.Trees.{states_of, wants_of}

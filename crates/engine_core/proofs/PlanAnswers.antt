@@ -20,9 +20,9 @@ use Rattle.engine_rules.specs.declared.tests.Tested.{Tested}
 use Rattle.engine_rules.specs.declared.tests.Tested.TheVariants.{Passes}
 use Rattle.engine_rules.proofs.StepParts.{used_by_parts}
 use Rattle.incr_eval.specs.Plans.{PlanView}
-use Rattle.incr_eval.specs.Visits.{all_wants}
-use Rattle.incr_eval.specs.declared.changes.Changes.{Changes}
-use Rattle.incr_eval.specs.declared.visit.Visit.{Visit}
+use Rattle.visit_rules.specs.Visits.{all_wants}
+use Rattle.visit_rules.specs.declared.changes.Changes.{Changes}
+use Rattle.visit_rules.specs.declared.visit.Visit.{Visit}
 use Rattle.engine_core.specs.Answers.{IsRefusedBy, stored_by}
 use Rattle.engine_core.specs.Evaluated.{dirty_in, evaluated, trees_of}
 use Rattle.engine_core.specs.Plans.{HasRowRoom}

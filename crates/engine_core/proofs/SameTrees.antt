@@ -16,19 +16,19 @@ use Rattle.term_core.specs.declared.program.Program.{Program}
 use Rattle.term_core.specs.declared.program.Term.{Term}
 use Rattle.term_core.proofs.Agreeing.{agree_left, agree_right}
 use Rattle.engine_rules.proofs.RepliedBefore.{agree_at}
-use Rattle.incr_eval.specs.Again.{Again, again, trace}
-use Rattle.incr_eval.specs.KnownChanges.{all_read, all_read_step}
-use Rattle.incr_eval.specs.Traces.{again_from, traces}
-use Rattle.incr_eval.specs.Visits.{Test, all_wants, passes, passes_step, read_differs, state_of, wants_of}
-use Rattle.incr_eval.specs.declared.visit.Read.{Read}
-use Rattle.incr_eval.specs.declared.visit.Read.TheVariants as read
-use Rattle.incr_eval.specs.declared.visit.Visit.{Visit}
-use Rattle.incr_eval.specs.declared.visit.Visit.TheOpen.{Visit-F}
-use Rattle.incr_eval.specs.declared.visit.Visit.TheViews.{roll-Visit}
-use Rattle.incr_eval.specs.declared.visit.Visit.TheFolds.{fold-roll-Visit, ind-Visit, map-Visit}
-use Rattle.incr_eval.proofs.AllNodes.{traces_match}
-use Rattle.incr_eval.proofs.ChangesRight.{all_read_implied, all_read_together, is_still, still, wanted_by, wanted_in}
-use Rattle.incr_eval.proofs.Unchanged.{stays}
+use Rattle.visit_rules.specs.Again.{Again, again, trace}
+use Rattle.visit_rules.specs.KnownChanges.{all_read, all_read_step}
+use Rattle.visit_rules.specs.Traces.{again_from, traces}
+use Rattle.visit_rules.specs.Visits.{Test, all_wants, passes, passes_step, read_differs, state_of, wants_of}
+use Rattle.visit_rules.specs.declared.visit.Read.{Read}
+use Rattle.visit_rules.specs.declared.visit.Read.TheVariants as read
+use Rattle.visit_rules.specs.declared.visit.Visit.{Visit}
+use Rattle.visit_rules.specs.declared.visit.Visit.TheOpen.{Visit-F}
+use Rattle.visit_rules.specs.declared.visit.Visit.TheViews.{roll-Visit}
+use Rattle.visit_rules.specs.declared.visit.Visit.TheFolds.{fold-roll-Visit, ind-Visit, map-Visit}
+use Rattle.visit_rules.proofs.AllNodes.{traces_match}
+use Rattle.visit_rules.proofs.ChangesRight.{all_read_implied, all_read_together, is_still, still, wanted_by, wanted_in}
+use Rattle.visit_rules.proofs.Unchanged.{stays}
 
 -- ---- a test that fails on all that was read passes nowhere
 

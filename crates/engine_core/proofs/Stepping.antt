@@ -31,8 +31,8 @@ use Rattle.engine_rules.proofs.Edited.{change_made, own_untouched, passed_may_ow
 use Rattle.engine_rules.proofs.RepliedBefore.{agreement_lasts}
 use Rattle.engine_rules.proofs.StepParts.{accepted_by_parts, marked_alone}
 use Rattle.incr_eval.specs.Plans.{PlanView}
-use Rattle.incr_eval.specs.Traces.{traces}
-use Rattle.incr_eval.specs.Visits.{all_wants, states}
+use Rattle.visit_rules.specs.Traces.{traces}
+use Rattle.visit_rules.specs.Visits.{all_wants, states}
 use Rattle.engine_core.specs.Evaluated.{trees_of}
 use Rattle.engine_core.specs.Plans.{HasRowRoom, IsPlannedFor, changed_by, reply_planned}
 use Rattle.engine_core.specs.State.{EngineState, IsEngineLawful}

@@ -12,11 +12,11 @@ use Rattle.term_core.specs.declared.program.Program.{Program}
 use Rattle.core_rules.specs.Core.{CoreState}
 use Rattle.core_rules.specs.Entries.{states as states_in, wants}
 use Rattle.core_rules.specs.Replies.{changed_from as changed_nodes}
-use Rattle.incr_eval.specs.Plans.{changed_from}
-use Rattle.incr_eval.specs.Traces.{traces}
-use Rattle.incr_eval.specs.Visits.{all_wants, states}
+use Rattle.visit_rules.specs.Differences.{changed_from}
+use Rattle.visit_rules.specs.Traces.{traces}
+use Rattle.visit_rules.specs.Visits.{all_wants, states}
 use Rattle.engine_core.specs.Evaluated.{trees_of}
-use Rattle.incr_eval.proofs.AllNodes.{traces_match}
+use Rattle.visit_rules.proofs.AllNodes.{traces_match}
 
 -- what the trees of all nodes tell
 pub record TreesTell (program : Program) (inputs : List Value) (world : World) : Type 0 where

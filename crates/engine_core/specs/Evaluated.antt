@@ -5,8 +5,8 @@ use Rattle.core_rules.specs.Core.{CoreState}
 use Rattle.core_rules.specs.Entries.{world}
 use Rattle.core_rules.specs.Steps.{at_time, change}
 use Rattle.core_rules.specs.declared.events.Event.{Event}
-use Rattle.incr_eval.specs.Traces.{all_dirty, traces}
-use Rattle.incr_eval.specs.declared.visit.Visit.{Visit}
+use Rattle.visit_rules.specs.Traces.{all_dirty, traces}
+use Rattle.visit_rules.specs.declared.visit.Visit.{Visit}
 
 -- the trees of the visits of all nodes in a state
 abbrev pub trees_of : CoreState → List Visit

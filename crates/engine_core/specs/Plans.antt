@@ -14,8 +14,9 @@ use Rattle.engine_rules.specs.Edits.{inputs_made}
 use Rattle.engine_rules.specs.Proper.{IsProperWhat}
 use Rattle.engine_rules.specs.declared.edits.InputChange.{InputChange}
 use Rattle.engine_rules.specs.declared.edits.InputChange.TheVariants as input
-use Rattle.incr_eval.specs.Plans.{PlanView, changed_states}
-use Rattle.incr_eval.specs.declared.visit.Visit.{Visit}
+use Rattle.incr_eval.specs.Plans.{PlanView}
+use Rattle.visit_rules.specs.Differences.{changed_states}
+use Rattle.visit_rules.specs.declared.visit.Visit.{Visit}
 use Rattle.engine_core.specs.Evaluated.{trees_of}
 use Rattle.engine_core.specs.State.{EngineState}
 use Rattle.engine_core.specs.declared.planned.Planned.{Planned}

@@ -5,9 +5,9 @@ ghost use Rattle.term_core.specs.Fresh.{fresh};
 ghost use Rattle.term_core.specs.Limits.{IsWithinLimits};
 ghost use Rattle.core_rules.specs.Replies.{changed_from};
 ghost use Rattle.engine_rules.specs.Conflicts.{counted};
-ghost use Rattle.incr_eval.specs.Plans.{CoversChanges};
-ghost use Rattle.incr_eval.specs.Traces.{all_dirty, traces};
-ghost use Rattle.incr_eval.specs.Visits.{all_wants, states};
+ghost use Rattle.visit_rules.specs.Differences.{CoversChanges};
+ghost use Rattle.visit_rules.specs.Traces.{all_dirty, traces};
+ghost use Rattle.visit_rules.specs.Visits.{all_wants, states};
 ghost use Rattle.engine_core.specs.Plans.{IsPlannedOver};
 
 use incr_eval::{Changes, EvalPlan, Live};
@@ -26,8 +26,8 @@ pub(crate) struct Evaluation {
 impl Model for Evaluation {
     ghost use Rattle.std.specs.Prelude.{List};
     ghost use Rattle.std.specs.Coded.{coded_list};
-    ghost use Rattle.incr_eval.specs.Views.{visit_code};
-    ghost use Rattle.incr_eval.specs.declared.visit.Visit.{Visit};
+    ghost use Rattle.visit_rules.specs.Views.{visit_code};
+    ghost use Rattle.visit_rules.specs.declared.visit.Visit.{Visit};
 
     ghost Value = { List Visit };
 

@@ -1,14 +1,14 @@
 -- What the loops over parts and over items keep: what the patches so far make, with what is left, comes to all.
-use Rattle.std.proofs.Common.{◌≡◌, ℕ, zero, suc, ◌+◌, ◌≤◌, List, [], ◌∷◌, ◌++◌, map, drop, length, replicate, Bool, true, false, cond, slice_get, Option, Some, None, refl, ap, sym, ◌∙◌, append_assoc, arith, add-one}
+use Rattle.std.proofs.Common.{◌≡◌, ℕ, zero, suc, ◌+◌, ◌≤◌, List, [], ◌∷◌, ◌++◌, map, drop, length, replicate, Bool, true, false, cond, slice_get, Option, Some, None, refl, ap, append_assoc, arith}
 use Rattle.value_core.specs.declared.state.State.{State}
 use Rattle.term_core.specs.Evaluation.{Bound, Context}
 use Rattle.term_core.specs.declared.program.Term.{Term}
-use Rattle.incr_eval.proofs.Telling.{sum-cons}
-use Rattle.incr_eval.specs.Again.{Again, again_by, parts_again, ticks_in, unused, visits}
+use Rattle.visit_rules.proofs.Telling.{sum-cons}
+use Rattle.visit_rules.specs.Again.{Again, again_by, parts_again, ticks_in, unused, visits}
 use Rattle.incr_eval.specs.PatchedTrees.{Patching, body_at, patched, patched_bodies, patched_parts}
-use Rattle.incr_eval.specs.Visits.{Test, state_of, states}
+use Rattle.visit_rules.specs.Visits.{Test, state_of, states}
 use Rattle.incr_eval.specs.declared.patch.Patch.{Patch}
-use Rattle.incr_eval.specs.declared.visit.Visit.{Visit}
+use Rattle.visit_rules.specs.declared.visit.Visit.{Visit}
 
 pub drop-nil : {X : Type 0} (n : ℕ) → drop {A = X} n [] ≡ []
 drop-nil zero = refl

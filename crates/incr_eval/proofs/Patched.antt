@@ -2,14 +2,14 @@
 use Rattle.std.proofs.Common.{◌≡◌, ℕ, zero, suc, ◌<◌, arith, List, [], ◌∷◌, length, map, get_or, Option, Some, None, slice_get, refl, ap, sym, ◌∙◌}
 use Rattle.std.proofs.lemmas.List.{length-map}
 use Rattle.incr_eval.proofs.PooledTrees.{map_at, seen_again}
-use Rattle.incr_eval.specs.Again.{old_bodies, old_parts}
+use Rattle.visit_rules.specs.Again.{old_bodies, old_parts}
 use Rattle.incr_eval.specs.PatchedTrees.{Patching, body_at, no_visit, patched, patched_bodies, patched_parts, patched_step, visit_of, visit_or_none}
-use Rattle.incr_eval.specs.declared.instance.Instance.{Instance}
+use Rattle.visit_rules.specs.declared.instance.Instance.{Instance}
 use Rattle.incr_eval.specs.declared.patch.Patch.{Patch, Patch-F, fold-roll-Patch}
 use Rattle.incr_eval.specs.declared.patch.Patch.TheVariants as patch
-use Rattle.incr_eval.specs.declared.visit.Visit.{Visit}
-use Rattle.incr_eval.specs.declared.visit.Visit.TheOpen.{Visit-F}
-use Rattle.incr_eval.specs.declared.visit.Visit.TheViews.{out-Visit, out-roll-Visit, roll-Visit}
+use Rattle.visit_rules.specs.declared.visit.Visit.{Visit}
+use Rattle.visit_rules.specs.declared.visit.Visit.TheOpen.{Visit-F}
+use Rattle.visit_rules.specs.declared.visit.Visit.TheViews.{out-Visit, out-roll-Visit, roll-Visit}
 
 pub stays_is : (old : Option Visit) → patched patch.Kept old ≡ visit_or_none old
 stays_is old = ap (λ (p : Patch). patched p old) (sym patch.rolls-Kept) ∙ ap (λ (f : Patching). f old) (fold-roll-Patch Patching patched_step Patch-F.Kept)

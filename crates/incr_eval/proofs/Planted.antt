@@ -1,24 +1,24 @@
 -- A tree is in a pool once its parts, its bodies and what it keeps were put there.
-use Rattle.std.proofs.Common.{◌≡◌, ℕ, zero, suc, ◌+◌, Bool, true, List, [], ◌∷◌, ◌++◌, map, sum, take, Option, Some, None, is_some, option_map, slice_get, refl, ap, sym, ◌∙◌, add-one, arith}
+use Rattle.std.proofs.Common.{◌≡◌, ℕ, ◌+◌, Bool, true, List, [], ◌∷◌, ◌++◌, map, sum, take, Option, Some, None, is_some, option_map, slice_get, refl, ap, ◌∙◌, add-one, arith}
 use Rattle.std.proofs.lemmas.List.{map-append}
 use Rattle.std.proofs.lemmas.List.Folds.{list_all-append}
 use Rattle.std.specs.FinMap.{get}
 use Rattle.std.specs.List.{list_all}
 use Rattle.scope_pool.specs.Region.{Region, ScopedItem, item_at}
-use Rattle.scope_pool.specs.declared.pool.Place.{Place}
-use Rattle.scope_pool.specs.declared.pool.ScopeId.{ScopeId}
-use Rattle.incr_eval.proofs.Telling.{sum-cons}
+use Rattle.visit_rules.proofs.Telling.{sum-cons}
 use Rattle.incr_eval.proofs.PoolGrowth.{grown_trans, trees_stay}
-use Rattle.incr_eval.proofs.ChangesRight.{all_both, and-both}
+use Rattle.value_core.proofs.Basics.{and_both}
+use Rattle.visit_rules.proofs.ChangesRight.{all_both}
+use Rattle.visit_rules.proofs.NodesLoop.{take_at}
 use Rattle.incr_eval.specs.PatchedTrees.{visit_of}
-use Rattle.incr_eval.specs.Pooled.{ArePlanted, IsGrown, IsPlanted, is_live, seen, seen_step, is_pooled, pooled_step, visit_at}
-use Rattle.incr_eval.specs.Visits.{all_visits, bodies_of, parts_of, visits_of}
-use Rattle.incr_eval.specs.declared.instance.Instance.{Instance}
+use Rattle.incr_eval.specs.Pooled.{ArePlanted, IsGrown, IsPlanted, seen, seen_step, is_pooled, pooled_step}
+use Rattle.visit_rules.specs.Visits.{all_visits, bodies_of, parts_of, visits_of}
+use Rattle.visit_rules.specs.declared.instance.Instance.{Instance}
 use Rattle.incr_eval.specs.declared.twig.Twig.{Twig}
 use Rattle.incr_eval.specs.declared.twig.Twig.TheOpen.{Twig-F}
 use Rattle.incr_eval.specs.declared.twig.Twig.TheViews.{roll-Twig}
 use Rattle.incr_eval.specs.declared.twig.Twig.TheFolds.{fold-roll-Twig}
-use Rattle.incr_eval.specs.declared.visit.Visit.{Visit}
+use Rattle.visit_rules.specs.declared.visit.Visit.{Visit}
 
 live_by : (o : Option (ScopedItem Instance)) (i : Instance) → option_map (λ (x : ScopedItem Instance). x.item) o ≡ Some i → is_some o ≡ true
 live_by None i e = absurd cc
@@ -44,14 +44,9 @@ pub planted_more : (r r' : Region Instance) (ts : List Twig) (t : Twig) (vs : Li
 planted_more r r' ts t vs v ps g p =
     let before = trees_stay r r' g ts ps.pooled in
     record {
-      pooled = ap (list_all (λ b. b)) (map-append (is_pooled r') ts (t ∷ [])) ∙ (list_all-append (λ b. b) (map (is_pooled r') ts) (map (is_pooled r') (t ∷ [])) ∙ and-both _ _ before.stand (and-both _ _ p.pooled refl));
+      pooled = ap (list_all (λ b. b)) (map-append (is_pooled r') ts (t ∷ [])) ∙ (list_all-append (λ b. b) (map (is_pooled r') ts) (map (is_pooled r') (t ∷ [])) ∙ and_both _ _ before.stand (and_both _ _ p.pooled refl));
       shown = map-append (seen r') ts (t ∷ []) ∙ rw (before.seen, ps.shown, p.shown) refl;
     }
-
-pub take_at : {X : Type 0} (xs : List X) (i : ℕ) (x : X) → slice_get xs i ≡ Some x → take (suc i) xs ≡ take i xs ++ x ∷ []
-take_at [] i x e = absurd cc
-take_at (y ∷ xs) zero x e = let h : y ≡ x = cc in rw h refl
-take_at {X = X} (y ∷ xs) (suc i) x e = ap (λ (ys : List X). y ∷ ys) (take_at xs i x e)
 
 sum_more : (vs : List Visit) (v : Visit) → sum (map visits_of (vs ++ v ∷ [])) ≡ sum (map visits_of vs) + visits_of v
 sum_more [] v = let h = sum-cons (visits_of v) [] in omega (arith, h)

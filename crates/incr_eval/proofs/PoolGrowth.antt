@@ -7,15 +7,15 @@ use Rattle.std.specs.List.{list_all}
 use Rattle.std.specs.Ordering.{eq_by_cmp, nat_cmp}
 use Rattle.scope_pool.proofs.StandingLaws.{eq_same}
 use Rattle.scope_pool.specs.Region.{IsOpen, Region, ScopedItem, item_at, opened, put_at}
-use Rattle.incr_eval.proofs.PooledTrees.{and-true}
-use Rattle.incr_eval.proofs.ChangesRight.{all_both, and-both}
+use Rattle.value_core.proofs.Basics.{and_both, and_parts}
+use Rattle.visit_rules.proofs.ChangesRight.{all_both}
 use Rattle.incr_eval.specs.Pooled.{IsGrown, is_live, seen, seen_step, is_pooled, pooled_step}
-use Rattle.incr_eval.specs.declared.instance.Instance.{Instance}
+use Rattle.visit_rules.specs.declared.instance.Instance.{Instance}
 use Rattle.incr_eval.specs.declared.twig.Twig.{Twig}
 use Rattle.incr_eval.specs.declared.twig.Twig.TheOpen.{Twig-F}
 use Rattle.incr_eval.specs.declared.twig.Twig.TheViews.{roll-Twig}
 use Rattle.incr_eval.specs.declared.twig.Twig.TheFolds.{fold-roll-Twig, ind-Twig, map-Twig}
-use Rattle.incr_eval.specs.declared.visit.Visit.{Visit}
+use Rattle.visit_rules.specs.declared.visit.Visit.{Visit}
 
 pub grown_same : (r r' : Region Instance) → r'.items ≡ r.items → r'.scopes ≡ r.scopes → IsGrown r r'
 grown_same r r' e f = record { items = λ p h. ap (λ m. get m p) e; scopes = λ s h. subst (λ ss. IsOpen ss s) (sym f) h }
@@ -44,16 +44,16 @@ module _ (r r' : Region Instance) (grown : IsGrown r r') where
   all_stay : (es : List ((t : Twig) × StaysAt t)) → list_all (λ b. b) (map (is_pooled r) (map (λ e. e.0) es)) ≡ true → AllStay (map (λ e. e.0) es)
   all_stay [] h = record { stand = refl; seen = refl }
   all_stay (e ∷ es) h =
-      let a = and-true _ _ h in
+      let a = and_parts _ _ h in
       let here = e.1 a.0 in
       let rest = all_stay es a.1 in
-      record { stand = and-both _ _ here.is_pooled rest.stand; seen = let x = here.seen in let y = rest.seen in cc }
+      record { stand = and_both _ _ here.is_pooled rest.stand; seen = let x = here.seen in let y = rest.seen in cc }
 
   stays_layer : (y : Twig-F ((t : Twig) × StaysAt t)) → StaysAt (roll-Twig (map-Twig ((t : Twig) × StaysAt t) Twig (λ e. e.0) y))
   stays_layer y h =
       let x : Twig-F Twig = map-Twig ((t : Twig) × StaysAt t) Twig (λ e. e.0) y in
-      let a = and-true _ _ (sym (fold-roll-Twig Bool (pooled_step r) x) ∙ h) in
-      let b = and-true _ _ a.1 in
+      let a = and_parts _ _ (sym (fold-roll-Twig Bool (pooled_step r) x) ∙ h) in
+      let b = and_parts _ _ a.1 in
       let parts : AllStay x.parts = all_stay y.parts b.0 in
       let bodies : AllStay x.bodies = all_stay y.bodies b.1 in
       let item : item_at r' x.place.number ≡ item_at r x.place.number = ap (λ (o : Option (ScopedItem Instance)). option_map (λ (i : ScopedItem Instance). i.item) o) (grown.items x.place.number a.0) in
@@ -69,10 +69,10 @@ module _ (r r' : Region Instance) (grown : IsGrown r r') where
   pub trees_stay : (ts : List Twig) → list_all (λ b. b) (map (is_pooled r) ts) ≡ true → AllStay ts
   trees_stay [] h = record { stand = refl; seen = refl }
   trees_stay (t ∷ ts) h =
-      let a = and-true _ _ h in
+      let a = and_parts _ _ h in
       let here = tree_stays t a.0 in
       let rest = trees_stay ts a.1 in
-      record { stand = and-both _ _ here.is_pooled rest.stand; seen = let x = here.seen in let y = rest.seen in cc }
+      record { stand = and_both _ _ here.is_pooled rest.stand; seen = let x = here.seen in let y = rest.seen in cc }
 
 equal : (m n : ℕ) → eq_by_cmp nat_cmp m n ≡ true → m ≡ n
 equal m n e = grind (arith, nat_tests)

@@ -1,24 +1,21 @@
 -- A tree that is in a pool, by its place and its parts.
-use Rattle.std.proofs.Common.{◌≡◌, ℕ, zero, suc, ◌<◌, ◌≤◌, Bool, true, false, ◌&&◌, List, [], ◌∷◌, map, sum, slice_get, Option, Some, None, IsSome, option_map, refl, ap, sym, ◌∙◌, subst, arith}
+use Rattle.std.proofs.Common.{◌≡◌, ℕ, zero, suc, ◌<◌, ◌≤◌, Bool, true, List, [], ◌∷◌, map, sum, slice_get, Option, Some, None, IsSome, option_map, refl, ap, sym, ◌∙◌, subst, arith}
 use Rattle.std.specs.List.{list_all}
 use Rattle.std.specs.FinMap.{get}
+use Rattle.value_core.proofs.Basics.{and_parts}
 use Rattle.scope_pool.specs.Region.{IsLive, Region, ScopedItem, item_at}
 use Rattle.incr_eval.specs.PatchedTrees.{visit_of}
 use Rattle.incr_eval.specs.Pooled.{seen, seen_step, is_pooled, pooled_step, visit_at}
-use Rattle.incr_eval.specs.declared.instance.Instance.{Instance}
+use Rattle.visit_rules.specs.declared.instance.Instance.{Instance}
 use Rattle.incr_eval.specs.declared.twig.Twig.{Twig}
 use Rattle.incr_eval.specs.declared.twig.Twig.TheViews.{out-Twig}
 use Rattle.incr_eval.specs.declared.twig.Twig.TheFolds.{fold_out-Twig}
-use Rattle.incr_eval.specs.declared.visit.Visit.{Visit}
-use Rattle.incr_eval.specs.declared.visit.Visit.TheOpen.{Visit-F}
-use Rattle.incr_eval.specs.declared.visit.Visit.TheViews.{out-Visit, out-roll-Visit, roll-Visit, roll-out-Visit}
-use Rattle.incr_eval.specs.declared.visit.Visit.TheFolds.{fold_out-Visit}
-use Rattle.incr_eval.specs.Visits.{visits_of, visits_step}
-use Rattle.incr_eval.proofs.Telling.{sum-cons}
-
-pub and-true : (a b : Bool) → (a && b) ≡ true → (a ≡ true) × (b ≡ true)
-and-true true b h = (refl, h)
-and-true false b h = absurd cc
+use Rattle.visit_rules.specs.declared.visit.Visit.{Visit}
+use Rattle.visit_rules.specs.declared.visit.Visit.TheOpen.{Visit-F}
+use Rattle.visit_rules.specs.declared.visit.Visit.TheViews.{out-Visit, out-roll-Visit, roll-Visit, roll-out-Visit}
+use Rattle.visit_rules.specs.declared.visit.Visit.TheFolds.{fold_out-Visit}
+use Rattle.visit_rules.specs.Visits.{visits_of, visits_step}
+use Rattle.visit_rules.proofs.Telling.{sum-cons}
 
 pub record Stands (r : Region Instance) (t : Twig) : Type 0 where
   pub place : IsLive r (out-Twig t).place.number
@@ -27,8 +24,8 @@ pub record Stands (r : Region Instance) (t : Twig) : Type 0 where
 
 pub stands_told : (r : Region Instance) (t : Twig) → is_pooled r t ≡ true → Stands r t
 stands_told r t h =
-    let a = and-true _ _ (sym (fold_out-Twig Bool (pooled_step r) t) ∙ h) in
-    let b = and-true _ _ a.1 in
+    let a = and_parts _ _ (sym (fold_out-Twig Bool (pooled_step r) t) ∙ h) in
+    let b = and_parts _ _ a.1 in
     record { place = a.0; parts = b.0; bodies = b.1 }
 
 pub seen_told : (r : Region Instance) (t : Twig) (i : Instance) → item_at r (out-Twig t).place.number ≡ Some i →
@@ -37,8 +34,8 @@ seen_told r t i e = fold_out-Twig Visit (seen_step r) t ∙ ap (λ (o : Option I
 
 pub all_at : {A : Type 0} (p : A → Bool) (xs : List A) (i : ℕ) (x : A) → list_all (λ b. b) (map p xs) ≡ true → slice_get xs i ≡ Some x → p x ≡ true
 all_at p [] i x h e = absurd cc
-all_at p (y ∷ xs) zero x h e = let k : y ≡ x = cc in subst (λ z. p z ≡ true) k (and-true _ _ h).0
-all_at p (y ∷ xs) (suc i) x h e = all_at p xs i x (and-true _ _ h).1 e
+all_at p (y ∷ xs) zero x h e = let k : y ≡ x = cc in subst (λ z. p z ≡ true) k (and_parts _ _ h).0
+all_at p (y ∷ xs) (suc i) x h e = all_at p xs i x (and_parts _ _ h).1 e
 
 pub map_at : {A B : Type 0} (f : A → B) (xs : List A) (i : ℕ) (x : A) → slice_get xs i ≡ Some x → slice_get (map f xs) i ≡ Some (f x)
 map_at f [] i x e = absurd cc

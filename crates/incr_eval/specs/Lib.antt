@@ -1,11 +1,4 @@
-pub mod Views
-pub mod Visits
-pub mod Tables
-pub mod Again
-pub mod Traces
-pub mod KnownChanges
 pub mod Plans
-pub mod Mapping
 pub mod PatchedTrees
 pub mod Pooled
 pub mod Growing

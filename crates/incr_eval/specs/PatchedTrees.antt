@@ -2,12 +2,12 @@
 use Rattle.std.specs.Prelude.{ℕ, List, [], ◌∷◌, map, Option, Some, None, slice_get}
 use Rattle.value_core.specs.declared.state.State.TheVariants.{Fine}
 use Rattle.value_core.specs.declared.value.Value.TheVariants as value
-use Rattle.incr_eval.specs.Again.{old_bodies, old_parts}
-use Rattle.incr_eval.specs.declared.instance.Instance.{Instance}
+use Rattle.visit_rules.specs.Again.{old_bodies, old_parts}
+use Rattle.visit_rules.specs.declared.instance.Instance.{Instance}
 use Rattle.incr_eval.specs.declared.patch.Patch.{Patch, Patch-F, fold-Patch}
-use Rattle.incr_eval.specs.declared.visit.Read.TheVariants as read
-use Rattle.incr_eval.specs.declared.visit.Visit.{Visit}
-use Rattle.incr_eval.specs.declared.visit.Visit.TheViews.{roll-Visit}
+use Rattle.visit_rules.specs.declared.visit.Read.TheVariants as read
+use Rattle.visit_rules.specs.declared.visit.Visit.{Visit}
+use Rattle.visit_rules.specs.declared.visit.Visit.TheViews.{roll-Visit}
 
 -- a visit with what an instance has
 abbrev pub visit_of : Instance → List Visit → List Visit → Visit

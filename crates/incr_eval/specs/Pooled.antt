@@ -4,11 +4,11 @@ use Rattle.std.specs.FinMap.{get}
 use Rattle.std.specs.List.{list_all}
 use Rattle.scope_pool.specs.Region.{IsOpen, Region, item_at}
 use Rattle.incr_eval.specs.PatchedTrees.{no_visit, visit_of}
-use Rattle.incr_eval.specs.declared.instance.Instance.{Instance}
+use Rattle.visit_rules.specs.declared.instance.Instance.{Instance}
 use Rattle.incr_eval.specs.declared.twig.Twig.{Twig}
 use Rattle.incr_eval.specs.declared.twig.Twig.TheOpen.{Twig-F}
 use Rattle.incr_eval.specs.declared.twig.Twig.TheFolds.{fold-Twig}
-use Rattle.incr_eval.specs.declared.visit.Visit.{Visit}
+use Rattle.visit_rules.specs.declared.visit.Visit.{Visit}
 
 -- a visit with the item at a place
 abbrev pub visit_at : Option Instance → List Visit → List Visit → Visit

@@ -5,17 +5,18 @@ use Rattle.term_core.specs.Evaluation.{bind}
 use Rattle.term_core.specs.Views.{context_in}
 use Rattle.term_core.specs.World.{World}
 use Rattle.term_core.specs.declared.program.Term.{Term}
-use Rattle.incr_eval.specs.Again.{Again, again_by, bodies_over, items_over, old_bodies, old_parts, parts_over, spare_bodies, ticks_in, visit_over, visits}
-use Rattle.incr_eval.specs.KnownChanges.{known_in, moved_between}
+use Rattle.visit_rules.specs.Again.{Again, again_by, bodies_over, items_over, old_bodies, old_parts, parts_over, spare_bodies, ticks_in, visit_over, visits}
+use Rattle.visit_rules.specs.KnownChanges.{moved_between}
+use Rattle.visit_rules.specs.KnownChanges.{known_in}
 use Rattle.incr_eval.specs.PatchedTrees.{patched, patched_bodies, patched_parts, patched_trees}
-use Rattle.incr_eval.specs.Traces.{AgainAll}
-use Rattle.incr_eval.specs.Visits.{state_of, states}
+use Rattle.visit_rules.specs.Traces.{AgainAll}
+use Rattle.visit_rules.specs.Visits.{state_of, states}
 use Rattle.incr_eval.specs.declared.nodes.Nodes.{Nodes}
 use Rattle.incr_eval.specs.declared.renew.Renewal.{Renewal}
 use Rattle.incr_eval.specs.declared.renew.Renewed.{Renewed}
 use Rattle.incr_eval.specs.declared.renew.RenewedBodies.{RenewedBodies}
 use Rattle.incr_eval.specs.declared.renew.RenewedParts.{RenewedParts}
-use Rattle.incr_eval.specs.declared.visit.Visit.{Visit}
+use Rattle.visit_rules.specs.declared.visit.Visit.{Visit}
 
 -- a term over the tree that there was, as the renewal finds it
 abbrev pub term_in : {E : Type 0} → (E → World) → Renewal E → Term → Option Visit → Again

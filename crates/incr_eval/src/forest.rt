@@ -1,9 +1,8 @@
 //! The trees of all nodes, and the pool that their data is in.
 ghost use Rattle.std.specs.Prelude.{◌≡◌, ◌<◌, ◌++◌, ◌∷◌, [], length, slice_get, IfOk, Some};
 ghost use Rattle.std.specs.FinMap.{len};
-ghost use Rattle.incr_eval.specs.Visits.{all_visits};
+ghost use Rattle.visit_rules.specs.Visits.{all_visits};
 
-use crate::instance::Instance;
 use crate::next::Next;
 use crate::old::Old;
 use crate::plant::plant_at_top;
@@ -12,6 +11,7 @@ use scope_pool::Pool;
 use std::alloc::Global;
 use std::marker::Model;
 use value_core::{ListOf, NoMemory};
+use visit_rules::Instance;
 
 /// The trees of nodes in file order, each in a scope of its own, and nothing else.
 #[derive(Drop)]
@@ -23,8 +23,8 @@ pub(crate) struct Forest {
 impl Model for Forest {
     ghost use Rattle.std.specs.Prelude.{List};
     ghost use Rattle.std.specs.Coded.{coded_list};
-    ghost use Rattle.incr_eval.specs.Views.{visit_code};
-    ghost use Rattle.incr_eval.specs.declared.visit.Visit.{Visit};
+    ghost use Rattle.visit_rules.specs.Views.{visit_code};
+    ghost use Rattle.visit_rules.specs.declared.visit.Visit.{Visit};
 
     ghost Value = { List Visit };
 
@@ -32,8 +32,8 @@ impl Model for Forest {
 
     ghost use Rattle.std.specs.FinMap.{len};
     ghost use Rattle.std.specs.Prelude.{◌≡◌, map, true};
+    ghost use Rattle.visit_rules.specs.Visits.{all_visits};
     ghost use Rattle.incr_eval.specs.Pooled.{all_pooled, seen};
-    ghost use Rattle.incr_eval.specs.Visits.{all_visits};
 
     ghost view = { λ f. map (seen f.pool) f.trees };
 

@@ -1,13 +1,13 @@
 //! What trees want.
 ghost use Rattle.std.specs.Prelude.{◌≡◌, ◌++◌, IfOk, OnOk};
 ghost use Rattle.std.specs.List.{flat_map};
-ghost use Rattle.incr_eval.specs.Visits.{all_wants, bodies_of, parts_of, read_wants, wants_of};
+ghost use Rattle.visit_rules.specs.Visits.{all_wants, bodies_of, parts_of, read_wants, wants_of};
 
 use crate::forest::Forest;
 use crate::old::Old;
-use crate::visit::Read;
 use std::alloc::Global;
 use value_core::{ListOf, NoMemory, Triple};
+use visit_rules::Read;
 
 fn add_lookup(alloc: Global, read: &Read, wants: &mut ListOf<Triple>) -> Result<(), NoMemory>
     ensures { OnOk result (wants.new ≡ wants.old ++ read_wants read.now) }

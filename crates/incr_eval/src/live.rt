@@ -4,24 +4,22 @@ ghost use Rattle.std.specs.Prelude.{IfOk, OnErr, OnOk, Some};
 ghost use Rattle.std.specs.FinMap.{len};
 ghost use Rattle.term_core.specs.Counts.{count_of};
 ghost use Rattle.term_core.specs.Fresh.{fresh};
-ghost use Rattle.incr_eval.specs.Plans.{CoversChanges, IsPlanOf, IsSmall, MatchesFresh, tally};
-ghost use Rattle.incr_eval.specs.Traces.{all_dirty, traces};
-ghost use Rattle.incr_eval.specs.Visits.{all_visits, all_wants, states};
+ghost use Rattle.visit_rules.specs.Differences.{CoversChanges};
+ghost use Rattle.visit_rules.specs.Tables.{IsSmall};
+ghost use Rattle.visit_rules.specs.Traces.{MatchesFresh, all_dirty, traces};
+ghost use Rattle.visit_rules.specs.Visits.{all_visits, all_wants, states, tally};
+ghost use Rattle.incr_eval.specs.Plans.{IsPlanOf};
 
-use crate::changes::Changes;
-use crate::counting::{counted, tallied};
 use crate::forest::Forest;
 use crate::gathering::wants_in;
-use crate::instance::Instance;
-use crate::looking::look_at;
-use crate::nodes::{changed_nodes, plant_all, renew_all};
-use crate::setting::Pass;
+use crate::nodes::{plant_all, renew_all};
 use scope_pool::Pool;
 use std::alloc::Global;
 use std::marker::Model;
 use std::sync::ledger::Ledger;
 use term_core::{Entries, Program};
 use value_core::{ListOf, NoMemory, State, Steps, Triple, Value};
+use visit_rules::{Changes, Instance, Pass, changed_nodes, counted, look_at, tallied};
 
 /// All nodes, evaluated and kept so.
 #[derive(Drop)]
@@ -42,7 +40,7 @@ impl Model for Live {
     ghost coded = { live_code };
 
     ghost use Rattle.std.specs.Prelude.{◌≡◌};
-    ghost use Rattle.incr_eval.specs.Visits.{all_wants};
+    ghost use Rattle.visit_rules.specs.Visits.{all_wants};
 
     ghost view = { λ l. record { trees = l.forest; waits = l.waits } };
 
@@ -66,7 +64,7 @@ impl Model for EvalPlan {
     ghost coded = { plan_code };
 
     ghost use Rattle.std.specs.Prelude.{◌≡◌};
-    ghost use Rattle.incr_eval.specs.Visits.{all_wants};
+    ghost use Rattle.visit_rules.specs.Visits.{all_wants};
 
     ghost view = { λ p. record { trees = p.forest; changed = p.changed } };
 
@@ -151,7 +149,7 @@ impl Live {
         let nodes = renew_all(alloc, &self.forest, &pass, steps)?;
         let forest = plant_all(alloc, &nodes, &self.forest)?;
         let wants = wants_in(alloc, &forest)?;
-        let changed = changed_nodes(alloc, nodes)?;
+        let changed = changed_nodes(alloc, nodes.moved.as_slice(), nodes.states.as_slice())?;
         self.waits = true;
         Ok(EvalPlan {
             alloc,

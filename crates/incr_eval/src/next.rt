@@ -1,17 +1,16 @@
 //! The tree that comes of the one that there was.
 ghost use Rattle.std.specs.Prelude.{◌≡◌, ◌<◌, length, Some, None, get_or, slice_get, IfOk};
-ghost use Rattle.incr_eval.specs.Again.{old_bodies, old_parts};
+ghost use Rattle.visit_rules.specs.Again.{old_bodies, old_parts};
+ghost use Rattle.visit_rules.specs.Visits.{bodies_of, parts_of, visits_of};
 ghost use Rattle.incr_eval.specs.PatchedTrees.{patched, visit_of, visit_or_none};
-ghost use Rattle.incr_eval.specs.Visits.{bodies_of, parts_of, visits_of};
 
-use crate::instance::Instance;
 use crate::old::Old;
 use crate::patch::{Patch, patch_at};
 use crate::renew::{bodies_before, body_before, part_before, parts_before};
-use crate::visit::Read;
 use std::alloc::Global;
 use std::marker::Model;
 use value_core::{ListOf, NoMemory, State, Value};
+use visit_rules::{Instance, Read};
 
 /// What a patch has of a visit that was made anew.
 #[derive(Clone, Copy)]
@@ -31,9 +30,9 @@ pub(crate) struct Next<'a> {
 }
 
 impl<'a> Model for Next<'a> {
+    ghost use Rattle.visit_rules.specs.Views.{visit_code};
+    ghost use Rattle.visit_rules.specs.declared.visit.Visit.{Visit};
     ghost use Rattle.incr_eval.specs.Growing.{next_visit};
-    ghost use Rattle.incr_eval.specs.Views.{visit_code};
-    ghost use Rattle.incr_eval.specs.declared.visit.Visit.{Visit};
 
     ghost Value = { Visit };
 

@@ -1,9 +1,8 @@
 //! All nodes in file order, each over the tree that there was and the states of the earlier ones.
-ghost use Rattle.std.specs.Prelude.{◌≡◌, ◌<◌, ◌≤◌, ◌^◌, ◌++◌, ◌∷◌, [], false, get_or};
-ghost use Rattle.std.specs.Prelude.{if◌then◌else◌, length, IfOk, OnOk};
-ghost use Rattle.incr_eval.specs.KnownChanges.{is_moved, renewed_all};
+ghost use Rattle.std.specs.Prelude.{◌≡◌, ◌≤◌, length, IfOk};
+ghost use Rattle.visit_rules.specs.KnownChanges.{is_moved, renewed_all};
+ghost use Rattle.visit_rules.specs.Tables.{IsSmall};
 ghost use Rattle.incr_eval.specs.PatchedTrees.{patched_trees};
-ghost use Rattle.incr_eval.specs.Plans.{IsSmall, changed_of};
 ghost use Rattle.incr_eval.specs.Renewals.{RenewsAll};
 
 use crate::forest::Forest;
@@ -11,11 +10,11 @@ use crate::next::Next;
 use crate::old::Old;
 use crate::patch::{Patch, patch_at};
 use crate::renew::{Renewed, renew};
-use crate::setting::{Changed, Pass, Setting};
 use std::alloc::Global;
 use std::sync::ledger::Ledger;
 use term_core::{Context, Entries};
 use value_core::{ListOf, NoMemory, State, Steps};
+use visit_rules::{Changed, Pass, Setting};
 
 /// What becomes of the trees of all nodes.
 #[derive(Drop)]
@@ -94,43 +93,4 @@ pub(crate) fn plant_all(alloc: Global, nodes: &Nodes, old: &Forest) -> Result<Fo
         forest = forest.with(alloc, &next)?;
     }
     Ok(forest)
-}
-
-fn is_set(flags: &[bool], i: usize) -> bool
-    ensures { result ≡ get_or flags.now i false }
-{
-    i < flags.len() && flags[i]
-}
-
-/// Adds a node with its state, if it has moved.
-fn add_moved(
-    alloc: Global,
-    moved: bool,
-    node: usize,
-    state: &State,
-    changed: &mut ListOf<(u32, State)>,
-) -> Result<(), NoMemory>
-    requires { node < 2 ^ 32 }
-    ensures { OnOk result (changed.new ≡
-        (if moved then changed.old ++ (node, state.now) ∷ [] else changed.old)) }
-{
-    if moved {
-        let state = state.copy(alloc)?;
-        changed.push((node as u32, state))?;
-    }
-    Ok(())
-}
-
-/// The nodes whose state is another, each with its new state.
-pub(crate) fn changed_nodes(alloc: Global, nodes: Nodes) -> Result<ListOf<(u32, State)>, NoMemory>
-    requires few { length nodes.states < 2 ^ 32 }
-    ensures { IfOk result (λ ns. ns ≡ changed_of nodes.moved nodes.states) }
-{
-    let mut changed = ListOf::new(alloc);
-    let moved = nodes.moved.as_slice();
-    let states = nodes.states.as_slice();
-    for i in 0..states.len() {
-        add_moved(alloc, is_set(moved, i), i, &states[i], &mut changed)?;
-    }
-    Ok(changed)
 }

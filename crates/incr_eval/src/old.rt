@@ -1,18 +1,16 @@
 //! The tree of an earlier visit.
 ghost use Rattle.std.specs.Prelude.{◌≡◌, ◌<◌, true, length, IfOk, Some, slice_get};
-ghost use Rattle.std.specs.Option.{option_copied};
+ghost use Rattle.visit_rules.specs.Visits.{state_of, visits_of};
+ghost use Rattle.visit_rules.specs.declared.visit.Visit.TheViews.{out-Visit};
 ghost use Rattle.incr_eval.specs.Pooled.{seen, is_pooled};
 ghost use Rattle.incr_eval.specs.PatchedTrees.{visit_of};
-ghost use Rattle.incr_eval.specs.Visits.{state_of, visits_of};
-ghost use Rattle.incr_eval.specs.declared.visit.Visit.TheViews.{out-Visit};
 
-use crate::instance::Instance;
 use crate::twig::Twig;
-use crate::visit::Read;
 use scope_pool::Pool;
 use std::alloc::Global;
 use std::marker::Model;
 use value_core::{NoMemory, State, Value};
+use visit_rules::{Instance, Read};
 
 /// A tree whose data is in a pool.
 #[derive(Drop)]
@@ -23,9 +21,9 @@ pub(crate) struct Old<'a> {
 
 impl<'a> Model for Old<'a> {
     ghost use Rattle.std.specs.Prelude.{◌≡◌, true};
+    ghost use Rattle.visit_rules.specs.Views.{visit_code};
+    ghost use Rattle.visit_rules.specs.declared.visit.Visit.{Visit};
     ghost use Rattle.incr_eval.specs.Pooled.{seen, is_pooled};
-    ghost use Rattle.incr_eval.specs.Views.{visit_code};
-    ghost use Rattle.incr_eval.specs.declared.visit.Visit.{Visit};
 
     ghost Value = { Visit };
 

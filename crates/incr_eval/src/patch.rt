@@ -1,8 +1,8 @@
 //! What becomes of a tree.
 ghost use Rattle.std.specs.Prelude.{◌≡◌, ◌<◌, length, slice_get, Some};
 
-use crate::instance::Instance;
 use value_core::ListOf;
+use visit_rules::Instance;
 
 /// What becomes of the tree of a term. It says nothing of what stays.
 #[derive(Drop)]

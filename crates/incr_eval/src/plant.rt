@@ -2,15 +2,15 @@
 ghost use Rattle.std.specs.Prelude.{◌≡◌, ◌+◌, IfOk, OnOk, Some};
 ghost use Rattle.std.specs.FinMap.{len};
 ghost use Rattle.scope_pool.specs.Region.{IsOpen, item_at};
+ghost use Rattle.visit_rules.specs.Visits.{all_visits, bodies_of, parts_of, visits_of};
 ghost use Rattle.incr_eval.specs.Pooled.{ArePlanted, IsGrown, IsPlanted};
-ghost use Rattle.incr_eval.specs.Visits.{all_visits, bodies_of, parts_of, visits_of};
 
-use crate::instance::Instance;
 use crate::next::Next;
 use crate::twig::Twig;
 use scope_pool::{Place, Pool, ScopeId};
 use std::alloc::Global;
 use value_core::{ListOf, NoMemory};
+use visit_rules::Instance;
 
 /// Puts one instance into a scope.
 fn put(instance: Instance, scope: ScopeId, pool: &mut Pool<Instance>) -> Result<Place, NoMemory>

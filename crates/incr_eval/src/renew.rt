@@ -1,28 +1,27 @@
 //! A term visited again, over the tree that there was.
-ghost use Rattle.std.specs.Prelude.{◌≡◌, ◌<◌, ◌≤◌, length, slice_get, slice_set, nat_lt};
-ghost use Rattle.std.specs.Prelude.{if◌then◌else◌, IfOk, OnOk, [], Some, None, true, false, replicate};
-ghost use Rattle.term_core.specs.declared.program.Term.{out-Term, size-Term};
+ghost use Rattle.std.specs.Prelude.{◌≡◌, ◌+◌, ◌<◌, ◌≤◌, length, slice_get};
+ghost use Rattle.std.specs.Prelude.{IfOk, OnOk, [], Some, None};
+ghost use Rattle.term_core.specs.declared.program.Term.{out-Term};
 ghost use Rattle.term_core.specs.Views.{context_in};
-ghost use Rattle.incr_eval.specs.Again.{again_by, old_bodies, old_items, old_parts};
-ghost use Rattle.incr_eval.specs.KnownChanges.{known_in};
+ghost use Rattle.visit_rules.specs.Again.{again_by, old_bodies, old_items, old_parts};
+ghost use Rattle.visit_rules.specs.KnownChanges.{known_in};
+ghost use Rattle.visit_rules.specs.Tables.{IsSmall, state_by};
 ghost use Rattle.incr_eval.specs.PatchedTrees.{body_at};
-ghost use Rattle.incr_eval.specs.Plans.{IsSmall};
 ghost use Rattle.incr_eval.specs.Renewals.{Renews, RenewsBodies, RenewsParts};
 ghost use Rattle.incr_eval.specs.Renewals.{binding, bodies_in, items_in, parts_in, term_in, visit_in};
-ghost use Rattle.incr_eval.specs.Tables.{direct_parts};
 
-use crate::instance::Instance;
-use crate::matches::find_unused;
+use crate::dirty::is_dirty;
 use crate::old::Old;
 use crate::patch::Patch;
-use crate::reads::{is_dirty, reading};
-use crate::setting::Setting;
-use crate::states::{Below, items_for};
 use sqlite_items::Boxed;
 use std::alloc::Global;
 use std::sync::ledger::Ledger;
 use term_core::{Binding, Entries, Term};
 use value_core::{ListOf, NoMemory, State, Steps, Text, Value};
+use visit_rules::{
+    Below, Instance, Read, Setting, Visitor, find_unused, items_for, none_used, part_count,
+    part_of, reading, take_body,
+};
 
 /// Renews the term of one node.
 #[derive(Drop)]
@@ -71,48 +70,6 @@ impl<'a> Body<'a> {
             name,
             term: body.get(),
         }
-    }
-}
-
-/// How many parts of a term are visited once.
-fn part_count(term: &Term) -> usize
-    ensures { result ≡ length (direct_parts (out-Term term.now)) }
-{
-    match term {
-        Term::Map { .. } => 1,
-        Term::Pair(_, _) => 2,
-        Term::Bind { .. } => 1,
-        Term::ListMap { .. } => 1,
-        Term::ListIter { .. } => 1,
-        Term::Catch(_) => 1,
-        Term::State(_) => 1,
-        Term::Gate(_, _) => 2,
-        Term::All(terms) => terms.len(),
-        Term::Build { .. } => 1,
-        Term::Output { .. } => 2,
-        _ => 0,
-    }
-}
-
-/// A part that is visited once.
-fn part_of(term: &Term, i: usize) -> &Term
-    requires { i < length (direct_parts (out-Term term.now)) }
-    ensures part { slice_get (direct_parts (out-Term term.now)) i ≡ Some result.now }
-    ensures smaller { size-Term result.now < size-Term term.now }
-{
-    match term {
-        Term::Map { term, .. } => term.get(),
-        Term::Pair(a, b) => { if i == 0 { a.get() } else { b.get() } }
-        Term::Bind { left, .. } => left.get(),
-        Term::ListMap { list, .. } => list.get(),
-        Term::ListIter { list, .. } => list.get(),
-        Term::Catch(term) => term.get(),
-        Term::State(term) => term.get(),
-        Term::Gate(on, term) => { if i == 0 { on.get() } else { term.get() } }
-        Term::All(terms) => &terms.as_slice()[i],
-        Term::Build { key, .. } => key.get(),
-        Term::Output { key, value, .. } => { if i == 0 { key.get() } else { value.get() } }
-        _ => unreachable!(),
     }
 }
 
@@ -181,30 +138,26 @@ pub(crate) fn body_before<'a>(old: &Option<Old<'a>>, from: Option<usize>) -> Opt
     }
 }
 
-/// That many items, none of them used.
-fn none_used(alloc: Global, count: usize) -> Result<Vec<bool>, NoMemory>
-    ensures { IfOk result (λ us. us.items ≡ replicate count false) }
-{
-    let mut used = Vec::new(alloc);
-    for _ in 0..count {
-        used.push(false)?;
-    }
-    Ok(used)
-}
-
-/// Uses the body at a place, if there is one.
-fn take_body(used: &mut Vec<bool>, place: usize) -> Option<usize>
-    ensures body { result ≡ (if nat_lt place (length used.old.items) then Some place else None) }
-    ensures used { used.new.items ≡
-        (if nat_lt place (length used.old.items) then slice_set used.old.items place true
-        else used.old.items) }
-    ensures len { length used.new.items ≡ length used.old.items }
-{
-    if place < used.len() {
-        used[place] = true;
-        Some(place)
-    } else {
-        None
+impl<'a, E> Renewal<'a, E> {
+    /// The state of a term, by those of its parts and bodies.
+    fn state<L: Ledger>(
+        &self,
+        term: &Term,
+        read: &Read,
+        below: Below,
+        steps: &mut Steps<L>,
+    ) -> Result<State, NoMemory>
+        ensures state { IfOk result (λ s. s ≡ state_by self.now.setting.context.node
+            (out-Term term.now) self.now.bound read.now below.parts below.bodies) }
+        ensures tick { OnOk result (steps.new ≡ steps.old + 1) }
+        ensures not_fallen { steps.old ≤ steps.new }
+    {
+        let visitor = Visitor {
+            alloc: self.alloc,
+            node: self.setting.context.node,
+            bound: self.bound.as_slice(),
+        };
+        visitor.state(term, read, below, steps)
     }
 }
 

@@ -5,7 +5,7 @@ use Rattle.sched_rows.specs.Rows.{Kept}
 use Rattle.core_rules.specs.Core.{CoreState}
 use Rattle.core_rules.specs.Parts.{core_of, dressed}
 use Rattle.engine_rules.specs.Touched.{KeptFor}
-use Rattle.incr_eval.specs.declared.visit.Visit.{Visit}
+use Rattle.visit_rules.specs.declared.visit.Visit.{Visit}
 use Rattle.engine_core.specs.Evaluated.{trees_of}
 use Rattle.engine_core.specs.State.{EngineState, IsEngineLawful}
 use Rattle.engine_core.specs.declared.engine.Engine.TheInside.{Inside}

@@ -23,8 +23,8 @@ use Rattle.core_rules.specs.declared.notes.Note.TheVariants as note
 use Rattle.job_core.specs.State.{JobsState}
 use Rattle.engine_rules.specs.Openings.{first_work}
 use Rattle.engine_rules.specs.Touched.{KeptFor, expiry_named}
-use Rattle.incr_eval.specs.Visits.{all_wants, states}
-use Rattle.incr_eval.specs.declared.visit.Visit.{Visit}
+use Rattle.visit_rules.specs.Visits.{all_wants, states}
+use Rattle.visit_rules.specs.declared.visit.Visit.{Visit}
 use Rattle.engine_core.specs.declared.engine.opening.FirstReply.{FirstReply}
 use Rattle.engine_core.specs.declared.stored.OpenedParts.{OpenedParts}
 

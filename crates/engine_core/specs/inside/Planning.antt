@@ -29,11 +29,12 @@ use Rattle.engine_rules.specs.declared.edits.Edit.{Edit}
 use Rattle.engine_rules.specs.declared.edits.InputChange.{InputChange}
 use Rattle.engine_rules.specs.declared.edits.InputChange.TheVariants as input
 use Rattle.engine_rules.specs.declared.tests.Tested.TheVariants.{Passes}
-use Rattle.incr_eval.specs.Plans.{CoversChanges, PlanView}
-use Rattle.incr_eval.specs.Traces.{traces}
-use Rattle.incr_eval.specs.Visits.{all_wants}
-use Rattle.incr_eval.specs.declared.changes.Changes.{Changes}
-use Rattle.incr_eval.specs.declared.visit.Visit.{Visit}
+use Rattle.incr_eval.specs.Plans.{PlanView}
+use Rattle.visit_rules.specs.Differences.{CoversChanges}
+use Rattle.visit_rules.specs.Traces.{traces}
+use Rattle.visit_rules.specs.Visits.{all_wants}
+use Rattle.visit_rules.specs.declared.changes.Changes.{Changes}
+use Rattle.visit_rules.specs.declared.visit.Visit.{Visit}
 use Rattle.engine_core.specs.Evaluated.{dirty_in, trees_of}
 use Rattle.engine_core.specs.Answers.{IsStep, stored_by}
 use Rattle.engine_core.specs.Plans.{HasInput, IsPlannedFor, IsPlannedOver, delta_planned, reply_planned, state_planned}

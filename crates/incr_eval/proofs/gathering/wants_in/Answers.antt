@@ -1,5 +1,5 @@
-use Rattle.std.proofs.Common.{◌≡◌, append_assoc}
-use Rattle.incr_eval.proofs.Gathers.{wants_at}
+use Rattle.std.proofs.Common.{append_assoc}
+use Rattle.visit_rules.proofs.Gathers.{wants_at}
 use Rattle.incr_eval.proofs.gathering.wants_in.Goals as goal
 
 pub loop-i-preserved : goal.loop-i-preserved

@@ -1,6 +1,6 @@
 use Rattle.std.proofs.Common.{◌≡◌, ◌++◌, drop}
 use Rattle.std.specs.List.{flat_map}
-use Rattle.incr_eval.specs.Visits.{wants_of}
+use Rattle.visit_rules.specs.Visits.{wants_of}
 use Rattle.incr_eval.proofs.gathering.wants_in.Given as goal
 
 abbrev pub invariant-loop-i : goal.invariant-loop-i

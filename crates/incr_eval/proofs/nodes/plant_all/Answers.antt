@@ -1,11 +1,11 @@
-use Rattle.std.proofs.Common.{◌≡◌, ◌∙◌, ◌+◌, ◌≤◌, List, length, slice_get, Option, Some, ap, sym, refl, add-one, arith}
+use Rattle.std.proofs.Common.{◌≡◌, ◌∙◌, ◌≤◌, List, length, slice_get, Option, ap, refl, add-one, arith}
 use Rattle.std.proofs.lemmas.Grind.{common_steps}
 use Rattle.std.proofs.lemmas.List.{take_all}
 use Rattle.incr_eval.proofs.Patched.{length-parts, part_made}
-use Rattle.incr_eval.proofs.Planted.{take_at}
+use Rattle.visit_rules.proofs.NodesLoop.{take_at}
 use Rattle.incr_eval.specs.PatchedTrees.{patched, patched_trees}
 use Rattle.incr_eval.specs.declared.patch.Patch.{Patch}
-use Rattle.incr_eval.specs.declared.visit.Visit.{Visit}
+use Rattle.visit_rules.specs.declared.visit.Visit.{Visit}
 use Rattle.incr_eval.proofs.nodes.plant_all.Goals as goal
 
 pub loop-i-preserved : goal.loop-i-preserved

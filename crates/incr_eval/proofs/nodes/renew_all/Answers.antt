@@ -1,12 +1,12 @@
-use Rattle.std.proofs.Common.{◌≡◌, ◌∙◌, ◌+◌, ◌<◌, ◌++◌, ◌∷◌, [], Bool, List, get_or, length, slice_get, Option, Some, ap, sym, refl, arith}
+use Rattle.std.proofs.Common.{◌≡◌, ◌∙◌, ◌<◌, ◌++◌, ◌∷◌, [], Bool, List, get_or, length, slice_get, Option, Some, ap, sym, refl, arith}
 use Rattle.std.proofs.lemmas.Grind.{common_steps}
 use Rattle.std.proofs.lemmas.List.{length_push}
 use Rattle.std.proofs.lemmas.Option.{slice_get-get_or}
-use Rattle.incr_eval.proofs.NodesLoop.{kept_all, kept_step, moved_more}
+use Rattle.visit_rules.proofs.NodesLoop.{kept_all, kept_step, moved_more}
 use Rattle.incr_eval.proofs.PatchLoops.{length-patches, map_more, parts_more}
-use Rattle.incr_eval.specs.KnownChanges.{is_moved, moved_between}
+use Rattle.visit_rules.specs.KnownChanges.{is_moved, moved_between}
 use Rattle.incr_eval.specs.PatchedTrees.{patched}
-use Rattle.incr_eval.specs.declared.visit.Visit.{Visit}
+use Rattle.visit_rules.specs.declared.visit.Visit.{Visit}
 use Rattle.term_core.specs.declared.program.NodeDecl.{NodeDecl}
 use Rattle.incr_eval.proofs.nodes.renew_all.Goals as goal
 

@@ -1,6 +1,6 @@
-use Rattle.std.proofs.Common.{◌≡◌, ◌≤◌, length, map}
-use Rattle.incr_eval.proofs.NodesLoop.{Kept}
-use Rattle.incr_eval.specs.KnownChanges.{moved_between}
+use Rattle.std.proofs.Common.{◌≡◌, ◌≤◌, length}
+use Rattle.visit_rules.proofs.NodesLoop.{Kept}
+use Rattle.visit_rules.specs.KnownChanges.{moved_between}
 use Rattle.incr_eval.specs.PatchedTrees.{patched_trees}
 use Rattle.incr_eval.proofs.nodes.renew_all.Given as goal
 

@@ -1,11 +1,11 @@
-use Rattle.std.proofs.Common.{◌≡◌, ◌∙◌, ◌+◌, ℕ, ap, sym, arith}
+use Rattle.std.proofs.Common.{◌≡◌, ℕ, ap, arith}
 use Rattle.std.specs.FinMap.{len}
 use Rattle.scope_pool.specs.Region.{Items}
 use Rattle.incr_eval.proofs.PoolGrowth.{grown_trans}
 use Rattle.incr_eval.proofs.Planted.{planted, planted_next, visits_next}
-use Rattle.incr_eval.specs.Visits.{bodies_of, parts_of, visits_of, visits_step}
-use Rattle.incr_eval.specs.declared.instance.Instance.{Instance}
-use Rattle.incr_eval.specs.declared.visit.Visit.TheFolds.{fold_out-Visit}
+use Rattle.visit_rules.specs.Visits.{bodies_of, parts_of, visits_step}
+use Rattle.visit_rules.specs.declared.instance.Instance.{Instance}
+use Rattle.visit_rules.specs.declared.visit.Visit.TheFolds.{fold_out-Visit}
 use Rattle.incr_eval.proofs.plant.+planting.Goals as goal
 
 pub plant-returns-clause-planted : goal.plant-returns-clause-planted

@@ -1,7 +1,7 @@
 use Rattle.std.proofs.Common.{◌≡◌, ◌+◌, ◌*◌, take}
 use Rattle.std.specs.FinMap.{len}
 use Rattle.incr_eval.specs.Pooled.{ArePlanted, IsGrown}
-use Rattle.incr_eval.specs.Visits.{all_visits, bodies_of, parts_of, visits_of}
+use Rattle.visit_rules.specs.Visits.{all_visits, bodies_of, parts_of, visits_of}
 use Rattle.incr_eval.proofs.plant.+planting.Given as goal
 
 abbrev pub decreases-plant : goal.decreases-plant

@@ -1,8 +1,8 @@
-use Rattle.std.proofs.Common.{◌≡◌, ◌∙◌, ◌+◌, ap, sym}
+use Rattle.std.proofs.Common.{◌∙◌, ◌+◌, ap}
 use Rattle.std.specs.FinMap.{len}
 use Rattle.scope_pool.specs.Region.{Region}
 use Rattle.incr_eval.proofs.PoolGrowth.{grown_put, grown_same, grown_trans, item_put, len_put}
-use Rattle.incr_eval.specs.declared.instance.Instance.{Instance}
+use Rattle.visit_rules.specs.declared.instance.Instance.{Instance}
 use Rattle.incr_eval.proofs.plant.put.Goals as goal
 
 pub returns-clause-put : goal.returns-clause-put

@@ -5,8 +5,8 @@ use Rattle.engine_rules.specs.Edits.{edited, inputs_made}
 use Rattle.engine_rules.specs.declared.edits.Edit.{Edit}
 use Rattle.engine_rules.specs.declared.edits.InputChange.{InputChange}
 use Rattle.incr_eval.specs.Plans.{PlanView}
-use Rattle.incr_eval.specs.Traces.{all_dirty, traces}
-use Rattle.incr_eval.specs.declared.visit.Visit.{Visit}
+use Rattle.visit_rules.specs.Traces.{all_dirty, traces}
+use Rattle.visit_rules.specs.declared.visit.Visit.{Visit}
 use Rattle.engine_core.specs.Evaluated.{trees_of}
 use Rattle.engine_core.specs.Plans.{HasInput, IsPlannedOver}
 use Rattle.engine_core.specs.State.{EngineState}

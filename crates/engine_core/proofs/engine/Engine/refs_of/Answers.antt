@@ -2,8 +2,8 @@ use Rattle.std.proofs.Common.{List, ap, ◌∙◌}
 use Rattle.value_core.specs.declared.state.Triple.{Triple}
 use Rattle.term_core.specs.Counts.{count_of}
 use Rattle.core_rules.specs.Entries.{refs}
-use Rattle.incr_eval.specs.Visits.{all_wants}
-use Rattle.incr_eval.specs.declared.visit.Visit.{Visit}
+use Rattle.visit_rules.specs.Visits.{all_wants}
+use Rattle.visit_rules.specs.declared.visit.Visit.{Visit}
 use Rattle.engine_core.specs.State.{EngineState}
 use Rattle.engine_core.specs.inside.Keeping.{core_in}
 use Rattle.engine_core.proofs.Trees.{wants_of}

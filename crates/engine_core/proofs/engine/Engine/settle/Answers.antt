@@ -13,7 +13,7 @@ use Rattle.job_core.specs.State.{core_at}
 use Rattle.job_core.specs.Wants.{AreWants, triples_in}
 use Rattle.engine_rules.specs.Conflicts.{counted, triples_of}
 use Rattle.engine_rules.specs.declared.edits.Edit.{Edit}
-use Rattle.incr_eval.specs.Visits.{all_wants}
+use Rattle.visit_rules.specs.Visits.{all_wants}
 use Rattle.engine_core.specs.State.{EngineState}
 use Rattle.engine_core.specs.inside.Keeping.{core_in}
 use Rattle.engine_core.specs.inside.Planning.{unsettled}

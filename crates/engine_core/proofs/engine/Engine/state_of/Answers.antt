@@ -3,11 +3,11 @@ use Rattle.std.specs.Prelude.{slice_get}
 use Rattle.value_core.specs.declared.state.State.{State}
 use Rattle.core_rules.specs.Core.{CoreState}
 use Rattle.core_rules.specs.Entries.{states as states_in, world}
-use Rattle.incr_eval.specs.Visits.{states}
-use Rattle.incr_eval.specs.declared.visit.Visit.{Visit}
+use Rattle.visit_rules.specs.Visits.{states}
+use Rattle.visit_rules.specs.declared.visit.Visit.{Visit}
 use Rattle.engine_core.specs.State.{EngineState}
 use Rattle.engine_core.specs.inside.Keeping.{core_in}
-use Rattle.incr_eval.proofs.AllNodes.{each_node}
+use Rattle.visit_rules.proofs.AllNodes.{each_node}
 use Rattle.engine_core.proofs.Trees.{states_of}
 use Rattle.engine_core.proofs.engine.Engine.state_of.Goals as goal
 

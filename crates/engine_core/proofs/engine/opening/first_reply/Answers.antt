@@ -1,6 +1,6 @@
 use Rattle.std.proofs.Common.{[], refl, ap, ◌∙◌}
 use Rattle.engine_rules.specs.Conflicts.{triples_of}
-use Rattle.incr_eval.specs.Visits.{all_wants}
+use Rattle.visit_rules.specs.Visits.{all_wants}
 use Rattle.engine_core.proofs.WantedCounts.{triples_counted}
 use Rattle.engine_core.proofs.engine.opening.first_reply.Goals as goal
 

@@ -4,7 +4,7 @@ use Rattle.term_core.specs.Counts.{in_order}
 use Rattle.core_rules.specs.Settling.{settle_for}
 use Rattle.job_core.specs.Wants.{AreWants, triples_in}
 use Rattle.engine_rules.specs.Conflicts.{counted}
-use Rattle.incr_eval.specs.Visits.{all_wants}
+use Rattle.visit_rules.specs.Visits.{all_wants}
 use Rattle.engine_core.specs.inside.Opening.{bare_of}
 use Rattle.engine_core.proofs.Opened.{unopened_by}
 use Rattle.engine_core.proofs.WantedCounts.{are_wants, triples_counted}

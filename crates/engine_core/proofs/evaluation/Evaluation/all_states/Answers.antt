@@ -1,8 +1,8 @@
 use Rattle.std.proofs.Common.{[], ◌∷◌, ◌++◌, List, ap, sym, ◌∙◌}
 use Rattle.std.specs.Prelude.{slice_get}
 use Rattle.core_rules.specs.Replies.{changed_from}
-use Rattle.incr_eval.specs.Visits.{states}
-use Rattle.incr_eval.specs.declared.visit.Visit.{Visit}
+use Rattle.visit_rules.specs.Visits.{states}
+use Rattle.visit_rules.specs.declared.visit.Visit.{Visit}
 use Rattle.engine_core.proofs.FirstStates.{taken_next}
 use Rattle.engine_core.proofs.evaluation.Evaluation.all_states.Goals as goal
 

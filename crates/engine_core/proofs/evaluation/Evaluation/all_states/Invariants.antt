@@ -1,6 +1,6 @@
 use Rattle.std.proofs.Common.{◌≡◌, ◌++◌, [], drop}
 use Rattle.core_rules.specs.Replies.{changed_from}
-use Rattle.incr_eval.specs.Visits.{states}
+use Rattle.visit_rules.specs.Visits.{states}
 use Rattle.engine_core.proofs.evaluation.Evaluation.all_states.Given as goal
 
 abbrev pub invariant-loop-node : goal.invariant-loop-node

@@ -1,8 +1,8 @@
-use Rattle.std.proofs.Common.{◌≡◌, ◌∙◌, ◌+◌, ◌++◌, ◌∷◌, [], ℕ, List, map, ap, sym, refl}
+use Rattle.std.proofs.Common.{◌∙◌, ◌+◌, ◌++◌, ◌∷◌, [], ℕ, List, map, ap, sym, refl}
 use Rattle.incr_eval.proofs.Planted.{planted_more, visits_more}
 use Rattle.incr_eval.specs.Pooled.{ArePlanted, seen}
-use Rattle.incr_eval.specs.Visits.{visits_of}
-use Rattle.incr_eval.specs.declared.visit.Visit.{Visit}
+use Rattle.visit_rules.specs.Visits.{visits_of}
+use Rattle.visit_rules.specs.declared.visit.Visit.{Visit}
 use Rattle.incr_eval.proofs.forest.Forest.with.Goals as goal
 
 pub invariant_of-result : goal.invariant_of-result

@@ -1,6 +1,6 @@
 use Rattle.std.proofs.Common.{◌≡◌, ◌∙◌, ◌+◌, ℕ, [], ap}
-use Rattle.incr_eval.proofs.Planning.{match_fresh, ticks_opened, traces_opened}
-use Rattle.incr_eval.specs.KnownChanges.{renewed_from}
+use Rattle.visit_rules.proofs.Planning.{match_fresh, ticks_opened, traces_opened}
+use Rattle.visit_rules.specs.KnownChanges.{renewed_from}
 use Rattle.incr_eval.specs.PatchedTrees.{patched_trees}
 use Rattle.incr_eval.proofs.live.Live.open.Goals as goal
 

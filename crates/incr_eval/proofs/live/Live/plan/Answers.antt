@@ -1,10 +1,10 @@
 use Rattle.std.proofs.Common.{◌≡◌, ◌∙◌, ◌+◌, ℕ, List, [], ap, sym}
-use Rattle.incr_eval.proofs.Planning.{changed_planned, match_fresh, ticks_planned_by, traces_planned_by}
-use Rattle.incr_eval.specs.KnownChanges.{looked_at, renewed_from}
+use Rattle.visit_rules.proofs.Planning.{changed_planned, match_fresh, ticks_planned_by, traces_planned_by}
+use Rattle.visit_rules.specs.KnownChanges.{looked_at, renewed_from}
 use Rattle.incr_eval.specs.PatchedTrees.{patched_trees}
-use Rattle.incr_eval.specs.Plans.{CoversChanges}
-use Rattle.incr_eval.specs.Visits.{all_wants, states}
-use Rattle.incr_eval.specs.declared.visit.Visit.{Visit}
+use Rattle.visit_rules.specs.Differences.{CoversChanges}
+use Rattle.visit_rules.specs.Visits.{all_wants, states}
+use Rattle.visit_rules.specs.declared.visit.Visit.{Visit}
 use Rattle.incr_eval.proofs.live.Live.plan.Goals as goal
 
 pub returns-clause-trees : goal.returns-clause-trees
@@ -44,4 +44,4 @@ returns-clause-made g c =
     let run = c.in_ok-nodes.ensures.run in
     let olds = c.self.inside.forest in
     let told_states = run.returned ∙ ap (λ (vs : List Visit). states vs) (sym (c.in_ok-forest.ensures ∙ run.made)) in
-    record { changed = c.in_ok-changed.ensures ∙ rw run.noted (changed_planned olds c.in_ok-forest.forest c.in_ok-nodes.nodes.states told_states) }
+    record { changed = rw (c.as_slice-4.ensures, c.as_slice-5.ensures) at c.in_ok-changed.ensures ∙ rw run.noted (changed_planned olds c.in_ok-forest.forest c.in_ok-nodes.nodes.states told_states) }

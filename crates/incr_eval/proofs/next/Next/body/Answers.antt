@@ -1,9 +1,9 @@
-use Rattle.std.proofs.Common.{◌≡◌, ◌∙◌, ◌<◌, ap, sym, length, Option, Some, slice_get}
+use Rattle.std.proofs.Common.{◌∙◌, ap, sym, Option, Some}
 use Rattle.incr_eval.proofs.Patched.{body_made, has_grown, has_stayed, kept_at, length-bodies}
 use Rattle.incr_eval.proofs.PooledTrees.{body_smaller}
-use Rattle.incr_eval.specs.Again.{old_bodies}
+use Rattle.visit_rules.specs.Again.{old_bodies}
 use Rattle.incr_eval.specs.PatchedTrees.{visit_or_none}
-use Rattle.incr_eval.specs.declared.visit.Visit.{Visit}
+use Rattle.visit_rules.specs.declared.visit.Visit.{Visit}
 use Rattle.incr_eval.proofs.next.Next.body.Goals as goal
 
 pub patch_at-requires : goal.patch_at-requires

@@ -1,4 +1,4 @@
-use Rattle.std.proofs.Common.{◌≡◌, ap, sym, length, refl}
+use Rattle.std.proofs.Common.{refl}
 use Rattle.incr_eval.proofs.Patched.{has_grown, has_stayed, length-bodies}
 use Rattle.incr_eval.proofs.next.Next.body_count.Goals as goal
 

@@ -1,10 +1,10 @@
-use Rattle.std.proofs.Common.{◌≡◌, ◌∙◌, ap, sym}
+use Rattle.std.proofs.Common.{◌≡◌, ◌∙◌, ap}
 use Rattle.std.proofs.lemmas.Result.{IfOk-weaker}
 use Rattle.incr_eval.proofs.Patched.{has_grown, has_stayed}
 use Rattle.incr_eval.specs.PatchedTrees.{visit_of}
-use Rattle.incr_eval.specs.Visits.{bodies_of, parts_of}
-use Rattle.incr_eval.specs.declared.instance.Instance.{Instance}
-use Rattle.incr_eval.specs.declared.visit.Visit.{Visit}
+use Rattle.visit_rules.specs.Visits.{bodies_of, parts_of}
+use Rattle.visit_rules.specs.declared.instance.Instance.{Instance}
+use Rattle.visit_rules.specs.declared.visit.Visit.{Visit}
 use Rattle.incr_eval.proofs.next.Next.instance.Goals as goal
 
 pub returns-in-Some : goal.returns-in-Some

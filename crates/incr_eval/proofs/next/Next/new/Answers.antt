@@ -1,4 +1,4 @@
-use Rattle.std.proofs.Common.{◌≡◌, ◌∙◌, ap, sym}
+use Rattle.std.proofs.Common.{◌∙◌, sym}
 use Rattle.incr_eval.proofs.Patched.{grown_is, stays_is}
 use Rattle.incr_eval.proofs.next.Next.new.Goals as goal
 

@@ -1,9 +1,9 @@
-use Rattle.std.proofs.Common.{◌≡◌, ◌∙◌, ◌<◌, ap, sym, length, Option, Some, slice_get}
+use Rattle.std.proofs.Common.{◌∙◌, ap, sym, Option, Some}
 use Rattle.incr_eval.proofs.Patched.{has_grown, has_stayed, kept_at, length-parts, part_made}
 use Rattle.incr_eval.proofs.PooledTrees.{part_smaller}
-use Rattle.incr_eval.specs.Again.{old_parts}
+use Rattle.visit_rules.specs.Again.{old_parts}
 use Rattle.incr_eval.specs.PatchedTrees.{visit_or_none}
-use Rattle.incr_eval.specs.declared.visit.Visit.{Visit}
+use Rattle.visit_rules.specs.declared.visit.Visit.{Visit}
 use Rattle.incr_eval.proofs.next.Next.part.Goals as goal
 
 pub patch_at-requires : goal.patch_at-requires

@@ -1,4 +1,4 @@
-use Rattle.std.proofs.Common.{◌≡◌, ap, sym, length, refl}
+use Rattle.std.proofs.Common.{refl}
 use Rattle.incr_eval.proofs.Patched.{has_grown, has_stayed, length-parts}
 use Rattle.incr_eval.proofs.next.Next.part_count.Goals as goal
 

@@ -1,4 +1,3 @@
-use Rattle.std.proofs.Common.{◌≡◌}
 use Rattle.std.proofs.lemmas.List.{length-map}
 use Rattle.incr_eval.proofs.PooledTrees.{shown}
 use Rattle.incr_eval.proofs.old.Old.body_count.Goals as goal

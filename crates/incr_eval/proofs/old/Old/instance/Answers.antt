@@ -1,4 +1,3 @@
-use Rattle.std.proofs.Common.{◌≡◌}
 use Rattle.incr_eval.proofs.PooledTrees.{shown}
 use Rattle.incr_eval.proofs.old.Old.instance.Goals as goal
 

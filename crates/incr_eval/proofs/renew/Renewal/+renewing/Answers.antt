@@ -1,4 +1,4 @@
-use Rattle.std.proofs.Common.{◌≡◌, ◌∙◌, ◌+◌, ◌<◌, ◌≤◌, ◌∷◌, ◌++◌, ℕ, [], List, Bool, cond, map, zip, drop, length, min, nat_lt, true, false, slice_get, sym, ap, refl, add-one, arith, Option, Some, None}
+use Rattle.std.proofs.Common.{◌≡◌, ◌∙◌, ◌+◌, ◌∷◌, List, Bool, cond, map, zip, drop, length, min, nat_lt, slice_get, sym, ap, refl, add-one, arith, Option, Some, None}
 use Rattle.std.proofs.lemmas.Grind.{common_steps}
 use Rattle.std.proofs.lemmas.List.{length_push}
 use Rattle.std.proofs.lemmas.Slice.Zip.{length-zip}
@@ -8,18 +8,17 @@ use Rattle.term_core.specs.Evaluation.{Context, bind}
 use Rattle.term_core.specs.Views.{context_in}
 use Rattle.term_core.specs.declared.program.Term.{Term, out-Term}
 use Rattle.incr_eval.proofs.PatchLoops.{bodies_more, body_at_cond, comes_none, comes_step, length-patches, map_more, parts_cons, parts_more, unused_none}
-use Rattle.incr_eval.proofs.Layers.{out_bind, out_list_iter, out_list_map}
 use Rattle.incr_eval.proofs.Patched.{grown_visit}
-use Rattle.incr_eval.proofs.Unused.{taken}
-use Rattle.incr_eval.specs.Again.{Again, again_by, first_for, items_over, old_bodies, old_items, old_parts, ticks_in, unused, unused_place, visits, without_first}
-use Rattle.incr_eval.specs.KnownChanges.{known_in}
+use Rattle.visit_rules.proofs.Unused.{taken}
+use Rattle.visit_rules.specs.Again.{Again, again_by, first_for, items_over, old_bodies, old_items, old_parts, ticks_in, unused, unused_place, visits, without_first}
+use Rattle.visit_rules.specs.KnownChanges.{known_in}
 use Rattle.incr_eval.specs.PatchedTrees.{body_at, patched}
 use Rattle.incr_eval.specs.Renewals.{RenewsBodies, bodies_in, parts_in}
-use Rattle.incr_eval.specs.Tables.{direct_parts, items_for, reading, state_by}
-use Rattle.incr_eval.specs.Visits.{Test, passes, state_of, states}
-use Rattle.incr_eval.specs.declared.visit.Visit.{Visit}
-use Rattle.incr_eval.specs.declared.visit.Visit.TheOpen.{Visit-F}
-use Rattle.incr_eval.specs.declared.visit.Visit.TheViews.{out-roll-Visit}
+use Rattle.visit_rules.specs.Tables.{direct_parts, items_for, reading, state_by}
+use Rattle.visit_rules.specs.Visits.{Test, state_of, states}
+use Rattle.visit_rules.specs.declared.visit.Visit.{Visit}
+use Rattle.visit_rules.specs.declared.visit.Visit.TheOpen.{Visit-F}
+use Rattle.visit_rules.specs.declared.visit.Visit.TheViews.{out-roll-Visit}
 use Rattle.incr_eval.proofs.renew.Renewal.+renewing.Goals as goal
 
 pub parts-loop-i-preserved : goal.parts-loop-i-preserved

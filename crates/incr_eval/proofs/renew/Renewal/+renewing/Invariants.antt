@@ -1,14 +1,14 @@
-use Rattle.std.proofs.Common.{◌≡◌, ◌+◌, ◌*◌, ◌≤◌, ℕ, List, map, zip, drop, length, vec_len, min, Option}
+use Rattle.std.proofs.Common.{◌≡◌, ◌+◌, ◌*◌, ◌≤◌, map, drop, length, min}
 use Rattle.term_core.specs.Evaluation.{Context}
 use Rattle.term_core.specs.Views.{context_in}
-use Rattle.term_core.specs.declared.program.Term.{Term, out-Term, size-Term}
+use Rattle.term_core.specs.declared.program.Term.{out-Term, size-Term}
 use Rattle.incr_eval.proofs.PatchLoops.{Comes}
-use Rattle.incr_eval.specs.Again.{again_by, items_over, old_bodies, old_items, old_parts, parts_again, spare_bodies, unused}
-use Rattle.incr_eval.specs.KnownChanges.{known_in}
+use Rattle.visit_rules.specs.Again.{again_by, items_over, old_bodies, old_items, old_parts, parts_again, spare_bodies, unused}
+use Rattle.visit_rules.specs.KnownChanges.{known_in}
 use Rattle.incr_eval.specs.PatchedTrees.{patched, patched_bodies, patched_parts}
 use Rattle.incr_eval.specs.Renewals.{items_in, parts_in}
-use Rattle.incr_eval.specs.Tables.{direct_parts}
-use Rattle.incr_eval.specs.Visits.{Test}
+use Rattle.visit_rules.specs.Tables.{direct_parts}
+use Rattle.visit_rules.specs.Visits.{Test}
 use Rattle.incr_eval.proofs.renew.Renewal.+renewing.Given as goal
 
 abbrev pub decreases-term : goal.decreases-term

@@ -1,6 +1,0 @@
-use Rattle.std.proofs.Common.{◌≡◌, ◌++◌, drop}
-use Rattle.incr_eval.specs.KnownChanges.{looked_at}
-use Rattle.incr_eval.proofs.looking.look_at.Given as goal
-
-abbrev pub invariant-loop-triple : goal.invariant-loop-triple
-invariant-loop-triple g l = l.looked ++ looked_at (g.E.Entries.world l.entries) l.wants (drop l.triple-index l.named) ≡ looked_at (g.E.Entries.world l.entries) l.wants l.named

@@ -1,0 +1,15 @@
+pub mod Layers
+pub mod Unchanged
+pub mod Renews
+pub mod Telling
+pub mod AllNodes
+pub mod SameTests
+pub mod ChangesRight
+pub mod ChangesEnough
+pub mod NodesLoop
+pub mod Planning
+pub mod Gathers
+pub mod Unused
+pub mod Passing
+pub mod FirstTwo
+pub mod Ordered
