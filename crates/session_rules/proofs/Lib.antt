@@ -3,6 +3,7 @@ pub mod Doing
 pub mod Composing
 pub mod OrderLoop
 pub mod Scripts
+pub mod Versions
 pub mod Going
 pub mod Texts
 pub mod Written
