@@ -14,15 +14,15 @@ use Rattle.session_rules.specs.Transcripts.{End, Quits, Limit, Transcript, befor
 use Rattle.session_rules.proofs.Doing.{did_more, did_none, did_stops, nothing_done, stopped_longer, then_stopped}
 use Rattle.session_rules.proofs.Growing.{exits_append, exits_more}
 
-before_before : (xs ys : List Output) (t : Transcript) → before xs (before ys t) ≡ before (xs ++ ys) t
+pub before_before : (xs ys : List Output) (t : Transcript) → before xs (before ys t) ≡ before (xs ++ ys) t
 before_before xs ys t = ap (λ (l : List Output). record { outputs = l; end = t.end }) (sym (append_assoc xs ys t.outputs))
 
 -- the beginning
-pub reaches_start : (t : Script) (e : Outside) → Reaches t t e e
+unfoldable pub reaches_start : (t : Script) (e : Outside) → Reaches t t e e
 reaches_start t e = record { outputs = []; goes = λ more. refl; did = did_none e }
 
 -- a script was done up to another, and that one up to a third
-pub reaches_then : (t u v : Script) (a b c : Outside) → Reaches t u a b → Reaches u v b c → Reaches t v a c
+unfoldable pub reaches_then : (t u v : Script) (a b c : Outside) → Reaches t u a b → Reaches u v b c → Reaches t v a c
 reaches_then t u v a b c x y = record {
   outputs = x.outputs ++ y.outputs;
   goes = λ more.
@@ -40,7 +40,7 @@ reaches_halts t u a b c x y = record {
 }
 
 -- a script was done up to another, which came to its end
-pub reaches_finishes : (t u : Script) (end : End) (a b c : Outside) → Reaches t u a b → Finishes u end b c → Finishes t end a c
+unfoldable pub reaches_finishes : (t u : Script) (end : End) (a b c : Outside) → Reaches t u a b → Finishes u end b c → Finishes t end a c
 reaches_finishes t u end a b c x y = record {
   outputs = x.outputs ++ y.outputs;
   goes = ap t (exits_append x.outputs y.outputs) ∙ x.goes (exits y.outputs) ∙ ap (before x.outputs) y.goes;
@@ -62,7 +62,7 @@ finishes_halts t end a b x = record {
 }
 
 -- nothing is left to do
-pub finishes_now : (end : End) (e : Outside) → Finishes (λ xs. ended end) end e e
+unfoldable pub finishes_now : (end : End) (e : Outside) → Finishes (λ xs. ended end) end e e
 finishes_now end e = record { outputs = []; goes = refl; did = did_none e }
 
 -- ---- a part, and the script after it
@@ -76,7 +76,7 @@ abbrev pub script_from : (Scene → Transcript) → Scene → Script
 script_from next s xs = next (expecting xs s)
 
 -- the part was done
-pub part_reaches : (p : Part) (s t : Scene) (next : Scene → Transcript) (a b : Outside) → Does p s t a b → Reaches (script_of p s next) (script_from next t) a b
+unfoldable pub part_reaches : (p : Part) (s t : Scene) (next : Scene → Transcript) (a b : Outside) → Does p s t a b → Reaches (script_of p s next) (script_from next t) a b
 part_reaches p s t next a b x = record { outputs = x.outputs; goes = λ more. ap (λ (w : Turn). continued w next) (x.goes more); did = x.did }
 
 -- what is left after a part that stopped
@@ -114,11 +114,11 @@ module _ (counting : Counting) (line : TextLine) (lines : List TextLine) where
   line_is n s goes = ap (λ b. if b then ended Quits else continued (line_part counting line s) (next_line n (lines_from counting lines))) goes
 
   -- the script of a line and of those after it is that of its part
-  line_script : (n : ℕ) (s : Scene) → is_quit line ≡ false → script_for counting (line ∷ lines) n s ≡ script_of (line_part counting line) s (next_line n (lines_from counting lines))
+  pub line_script : (n : ℕ) (s : Scene) → is_quit line ≡ false → script_for counting (line ∷ lines) n s ≡ script_of (line_part counting line) s (next_line n (lines_from counting lines))
   line_script n s goes = λ i xs. line_is n (expecting xs s) goes i
 
   -- after a line that isn't the last one that is taken the next ones follow
-  next_is : (n : ℕ) (s : Scene) → nat_lt 1 n ≡ true → script_from (next_line n (lines_from counting lines)) s ≡ script_for counting lines (n - 1) s
+  pub next_is : (n : ℕ) (s : Scene) → nat_lt 1 n ≡ true → script_from (next_line n (lines_from counting lines)) s ≡ script_for counting lines (n - 1) s
   next_is n s more = λ i xs. if more i then lines_from counting lines (n - 1) (expecting xs s) else ended Limit
 
   -- after the last one the session ends

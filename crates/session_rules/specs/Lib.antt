@@ -6,6 +6,7 @@ pub mod Steps
 pub mod Watching
 pub mod Transcripts
 pub mod Sessions
+pub mod Versions
 pub mod StoreTexts
 pub mod Commands
 pub mod Runs
