@@ -1,5 +1,6 @@
 -- What follows the commit of an opening: the lines of version 1, files, orders, and the lines of the input.
 use Rattle.std.proofs.Common.{◌≡◌, ◌≢◌, ◌-◌, ℕ, Bool, true, false, List, [], ◌∷◌, refl, sym, ap, ◌∙◌, arith}
+use Rattle.std.specs.Prelude.{IfOk, IfSome}
 use Rattle.std.specs.Option.{option_map}
 use Rattle.std.specs.declared.option.Option.{Option}
 use Rattle.std.specs.declared.option.Option.TheVariants.{None, Some}
@@ -16,18 +17,22 @@ use Rattle.core_rules.specs.declared.done.Done.{Done}
 use Rattle.report_text.specs.Lines.{reply_text}
 use Rattle.session_rules.specs.Outputs.{Print}
 use Rattle.session_rules.specs.Outside.{Outside}
+use Rattle.session_rules.specs.Parts.{then_do}
 use Rattle.session_rules.specs.Scenes.{Scene}
-use Rattle.session_rules.specs.Steps.{Counting}
+use Rattle.session_rules.specs.Steps.{Counting, all_orders}
 use Rattle.session_rules.specs.Transcripts.{Limit, Quits, Transcript, line_count, lines_from}
+use Rattle.session_rules.specs.Versions.{FinishesCounted}
+use Rattle.session_rules.specs.Watching.{watch_all}
 use Rattle.session_rules.proofs.Composing.{does_known}
 use Rattle.session_rules.proofs.Doing.{print_failed, printed}
 use Rattle.session_rules.proofs.Scripts.{part_halts, part_reaches, part_uses_up, reaches_finishes, reaches_halts}
+use Rattle.session_rules.proofs.Versions.{CountsIn, counts_then, orders_count, part_rises, rises_finishes, watch_counts}
 use Rattle.session_core.specs.Doing.{DoesFrom, DoesPart, Moment, StopsPart, scene_of}
-use Rattle.session_core.specs.Lines.{DoesLines, EndsScript, lines_script}
+use Rattle.session_core.specs.Lines.{CountsLines, DoesLines, EndsScript, lines_script}
 use Rattle.session_core.specs.Numbers.{CountsSince, counting, number}
 use Rattle.session_core.specs.declared.stop.Stop.{Stop}
 use Rattle.session_core.specs.declared.stop.Stop.TheVariants as stop
-use Rattle.session_core.specs.inside.Opening.{DoesCommitted, after_commit, committed_script, opening_lines}
+use Rattle.session_core.specs.inside.Opening.{CountsCommitted, DoesCommitted, after_commit, committed_script, opening_lines}
 use Rattle.session_core.proofs.Played.{at, does_from, stops_from}
 use Rattle.session_core.proofs.Playing.{StopsFrom}
 
@@ -96,6 +101,23 @@ module _ (counts : Counting) (text : List ℕ) where
   stops_by T z None a c x = tt
   stops_by T z (Some s) a c x = (part_halts (after_commit counts) s next a c x.stops, λ is. part_uses_up (after_commit counts) s next a c (x.limit is))
 
+begin_counts : (counts : Counting) → CountsIn (after_commit counts)
+begin_counts counts = counts_then (opening_lines counts) (then_do (watch_all counts) (all_orders counts)) (λ s. omega arith)
+    (counts_then (watch_all counts) (all_orders counts) (watch_counts counts) (orders_count counts))
+
+counted_by : (counts : Counting) (text : List ℕ) (s t : Option Scene) (v : ℕ) (a b c : Outside) → DoesFrom (after_commit counts) s t a b →
+    IfSome t (λ u. FinishesCounted (lines_script counts text u) Quits u.core.version v b c) → IfSome s (λ u. FinishesCounted (committed_script counts text u) Quits u.core.version v a c)
+counted_by counts text None t v a b c did ends = tt
+counted_by counts text (Some s) None v a b c did ends = absurd did
+counted_by counts text (Some s) (Some t) v a b c did ends =
+    rises_finishes (committed_script counts text s) (lines_script counts text t) Quits s.core.version t.core.version v a b c
+    (part_rises (after_commit counts) s t (next counts text) a b (begin_counts counts) did) ends
+
+-- and up to a version
+pub then_counted : (counts : Counting) (bytes : Option (List ℕ)) (m n o : Moment) (v : ℕ) → DoesPart (after_commit counts) m n → CountsLines counts bytes n o v → CountsCommitted counts bytes m o v
+then_counted counts None m n o v did ends = tt
+then_counted counts (Some text) m n o v did ends = counted_by counts text m.scene n.scene v m.outside n.outside o.outside did ends
+
 -- the lines were done after the beginning
 pub then_lines : {T : Type 0} (counts : Counting) (bytes : Option (List ℕ)) (m n o : Moment) (result : Result T Stop) → DoesPart (after_commit counts) m n → DoesLines counts bytes n o result → DoesCommitted counts bytes m o result
 then_lines counts None m n o result did ends = tt
@@ -105,3 +127,8 @@ then_lines counts (Some text) m n o result did ends = after_by counts text m.sce
 pub begin_stops : (T : Type 0) (counts : Counting) (bytes : Option (List ℕ)) (z : Stop) (m o : Moment) → StopsPart z (after_commit counts) m o → DoesCommitted counts bytes m o {T = T} (Err z)
 begin_stops T counts None z m o x = tt
 begin_stops T counts (Some text) z m o x = stops_by counts text T z m.scene m.outside o.outside x
+
+-- what follows for a call that was done
+pub if_done : {T P Q : Type 0} (result : Result T Stop) → (P → Q) → IfOk result (λ _. P) → IfOk result (λ _. Q)
+if_done (Ok x) follows p = follows p
+if_done (Err z) follows p = tt

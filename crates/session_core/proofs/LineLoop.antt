@@ -1,12 +1,12 @@
 -- The loop over lines.
-use Rattle.std.proofs.Common.{◌≡◌, ◌≢◌, ℕ, ◌-◌, ◌<◌, ◌≤◌, Bool, true, false, List, [], ◌∷◌, ◌++◌, length, map, refl, sym, ap, subst, ◌∙◌, inl, inr}
+use Rattle.std.proofs.Common.{◌≡◌, ◌≢◌, ℕ, ◌-◌, ◌<◌, ◌≤◌, Bool, true, false, List, [], ◌∷◌, ◌++◌, length, map, refl, sym, ap, subst, ◌∙◌, inl, inr, arith}
 use Rattle.std.specs.Prelude.{IfSome, if◌then◌else◌, nat_lt, not}
 use Rattle.std.specs.declared.option.Option.{Option}
 use Rattle.std.specs.declared.option.Option.TheVariants.{None, Some}
 use Rattle.std.specs.declared.result.Result.{Result}
 use Rattle.std.specs.declared.result.Result.TheVariants.{Ok, Err}
 use Rattle.std.specs.Io.KnownBytes.{prepend_known}
-use Rattle.value_core.proofs.Basics.{cond_is, is_nat_lt, not_nat_lt}
+use Rattle.value_core.proofs.Basics.{cond_is, is_nat_lt, not_nat_lt, some_is}
 use Rattle.io_ends.specs.declared.lines.Line.{Line}
 use Rattle.io_ends.specs.declared.lines.Line.TheVariants.{Whole, TooLong, End as NoLine}
 use Rattle.io_ends.specs.declared.lines.LineFault.{LineFault}
@@ -20,24 +20,41 @@ use Rattle.session_rules.specs.Outputs.{Output, exits}
 use Rattle.session_rules.specs.Outside.{Did, Outside}
 use Rattle.session_rules.specs.Parts.{Turn, Part, Does, StopsIn, UsesUp, nothing}
 use Rattle.session_rules.specs.Scenes.{Scene, expecting}
-use Rattle.session_rules.specs.Sessions.{Finishes, Halts, Reaches, Script}
+use Rattle.session_rules.specs.Sessions.{Finishes, Halts, Script}
+use Rattle.session_rules.specs.Versions.{FinishesCounted, ReachesCounted}
 use Rattle.session_rules.specs.Steps.{Counting}
 use Rattle.session_rules.specs.Transcripts.{Limit, Quits, Transcript, asked_part, continued, ended, is_end, is_quit, line_part, lines_from, next_line}
-use Rattle.session_rules.proofs.Scripts.{finishes_halts, last_finishes, line_halts, line_reaches, line_uses_up, not_begun, reaches_finishes, reaches_halts, reaches_start, reaches_then, script_for}
+use Rattle.session_rules.proofs.Scripts.{finishes_halts, last_finishes, line_halts, line_uses_up, not_begun, reaches_finishes, reaches_halts, script_for}
+use Rattle.session_rules.proofs.Versions.{line_rises, rises_finishes, rises_start, rises_then}
 use Rattle.session_core.specs.declared.stop.Stop.{Stop}
 use Rattle.session_core.specs.declared.stop.Stop.TheVariants as stop
 use Rattle.session_core.specs.Doing.{DoesFrom, DoesPart, Moment, Stops, StopsPart}
-use Rattle.session_core.specs.Lines.{DoesLines, EndsScript, lines_script}
+use Rattle.session_core.specs.Lines.{CountsLines, DoesLines, EndsScript, lines_script}
 use Rattle.session_core.specs.inside.ReadLines.{HasRead, ReadFrom, ahead_script, goes_on, line_stop, read_part}
 use Rattle.session_core.proofs.Playing.{StopsFrom}
 
 -- ---- a part that does nothing, before a script that is at its end
+
+-- one scene has one version
+if_same : (s t : Scene) → Some s ≡ Some t → s.core.version ≡ t.core.version
+if_same s t is = ap (λ (u : Scene). u.core.version) (some_is s t is)
 
 module _ (p : Part) (u : Script) (s : Scene) (a b : Outside) (idle : (t : Scene) → p t ≡ nothing t) (over : (xs : List Exit) → u xs ≡ ended Quits) where
   idle_finishes : (t : Scene) → Does p s t a b → Finishes u Quits a b
   idle_finishes t x =
       let none : [] ≡ x.outputs = ap (λ (w : Turn). w.outputs) (sym (idle (expecting (exits x.outputs ++ []) s)) ∙ x.goes []) in
       record { outputs = []; goes = over []; did = subst (λ (l : List Output). Did l a b) (sym none) x.did }
+
+  -- and the version stays
+  idle_rests : (t : Scene) → Does p s t a b → FinishesCounted u Quits s.core.version t.core.version a b
+  idle_rests t x =
+      let none : [] ≡ x.outputs = ap (λ (w : Turn). w.outputs) (sym (idle (expecting (exits x.outputs ++ []) s)) ∙ x.goes []) in
+      let same : Some (expecting (exits x.outputs ++ []) s) ≡ Some (expecting [] t) = ap (λ (w : Turn). w.scene) (sym (idle (expecting (exits x.outputs ++ []) s)) ∙ x.goes []) in
+      let core : s.core.version ≡ t.core.version = if_same (expecting (exits x.outputs ++ []) s) (expecting [] t) same in
+      record {
+        finishes = record { outputs = []; goes = over []; did = subst (λ (l : List Output). Did l a b) (sym none) x.did };
+        versions = omega (arith, core);
+      }
 
   idle_halts : StopsIn p s a b → Halts u a b
   idle_halts x =
@@ -126,17 +143,29 @@ module _ (counting : Counting) where
   line_ends old new NoLine n s t a b next last x =
       idle_finishes nothing (ahead_script counting old n s) s a b (λ u. refl) (λ xs. ap (λ (l : List ℕ). lines_from counting (lines_of l) n (expecting xs s)) next.0) t x
 
+  -- and the version stays
+  line_rests : (old new : List ℕ) (line : Line) (n : ℕ) (s t : Scene) (a b : Outside) → NextLine (Some old) line (Some new) → goes_on line ≡ false → Does (read_part counting line) s t a b →
+      FinishesCounted (ahead_script counting old n s) Quits s.core.version t.core.version a b
+  line_rests old new (Whole v) n s t a b next last x =
+      let line = text_line v.items in
+      let e : is_quit line ≡ true = not_not (is_quit line) last in
+      idle_rests (line_part counting line) (ahead_script counting old n s) s a b (λ u. quit_idle counting line u e)
+      (λ xs. ap (λ (ls : List TextLine). lines_from counting ls n (expecting xs s)) (whole_is old new v.items next.0) ∙ quits line (lines_of new) n (expecting xs s) e) t x
+  line_rests old new TooLong n s t a b next last x = absurd (cc)
+  line_rests old new NoLine n s t a b next last x =
+      idle_rests nothing (ahead_script counting old n s) s a b (λ u. refl) (λ xs. ap (λ (l : List ℕ). lines_from counting (lines_of l) n (expecting xs s)) next.0) t x
+
   -- it was done, and others may follow
-  text_goes : (line : TextLine) (lines : List TextLine) (n : ℕ) (s t : Scene) (a b : Outside) → is_quit line ≡ false → 1 < n → Does (line_part counting line) s t a b → Reaches (script_for counting (line ∷ lines) n s) (script_for counting lines (n - 1) t) a b
-  text_goes line lines n s t a b e more x = line_reaches counting line lines n s t a b e (is_nat_lt 1 n more) x
+  text_goes : (line : TextLine) (lines : List TextLine) (n : ℕ) (s t : Scene) (a b : Outside) → is_quit line ≡ false → 1 < n → Does (line_part counting line) s t a b → ReachesCounted (script_for counting (line ∷ lines) n s) (script_for counting lines (n - 1) t) s.core.version t.core.version a b
+  text_goes line lines n s t a b e more x = line_rises counting line lines n s t a b e (is_nat_lt 1 n more) x
 
   line_goes : (old new : List ℕ) (line : Line) (n : ℕ) (s t : Scene) (a b : Outside) → NextLine (Some old) line (Some new) → goes_on line ≡ true → 1 < n → Does (read_part counting line) s t a b →
-      Reaches (ahead_script counting old n s) (ahead_script counting new (n - 1) t) a b
+      ReachesCounted (ahead_script counting old n s) (ahead_script counting new (n - 1) t) s.core.version t.core.version a b
   line_goes old new (Whole v) n s t a b next goes more x =
-      subst (λ (ls : List TextLine). Reaches (script_for counting ls n s) (script_for counting (lines_of new) (n - 1) t) a b) (sym (whole_is old new v.items next.0))
+      subst (λ (ls : List TextLine). ReachesCounted (script_for counting ls n s) (script_for counting (lines_of new) (n - 1) t) s.core.version t.core.version a b) (sym (whole_is old new v.items next.0))
       (text_goes (text_line v.items) (lines_of new) n s t a b (is_not (is_quit (text_line v.items)) goes) more x)
   line_goes old new TooLong n s t a b next goes more x =
-      subst (λ (ls : List TextLine). Reaches (script_for counting ls n s) (script_for counting (lines_of new) (n - 1) t) a b) (sym next.0) (text_goes Long (lines_of new) n s t a b refl more x)
+      subst (λ (ls : List TextLine). ReachesCounted (script_for counting ls n s) (script_for counting (lines_of new) (n - 1) t) s.core.version t.core.version a b) (sym next.0) (text_goes Long (lines_of new) n s t a b refl more x)
   line_goes old new NoLine n s t a b next goes more x = absurd (cc)
 
   -- it was the last one that is taken
@@ -156,7 +185,7 @@ module _ (counting : Counting) where
   start : (a : Option (List ℕ)) (held : List ℕ) (s : Option Scene) (e : Outside) → held ≡ [] → ReadFrom counting a (prepend_known held a) 1000000 s s e e
   start None held s e none = tt
   start (Some bytes) held None e none = tt
-  start (Some bytes) held (Some s) e none = subst (λ (h : List ℕ). ReadFrom counting (Some bytes) (prepend_known h (Some bytes)) 1000000 (Some s) (Some s) e e) (sym none) (reaches_start (lines_script counting bytes s) e)
+  start (Some bytes) held (Some s) e none = subst (λ (h : List ℕ). ReadFrom counting (Some bytes) (prepend_known h (Some bytes)) 1000000 (Some s) (Some s) e e) (sym none) (rises_start (lines_script counting bytes s) s.core.version e)
 
   -- nothing was read
   pub read_starts : (a : Option (List ℕ)) (held : List ℕ) (m : Moment) → held ≡ [] → HasRead counting a (prepend_known held a) 1000000 m m
@@ -172,7 +201,7 @@ module _ (counting : Counting) where
     from_goes (Some bytes) (Some old) None line (Some s0) (Some s) t e a b read next goes more x = absurd next
     from_goes (Some bytes) (Some old) (Some new) line (Some s0) (Some s) None e a b read next goes more x = absurd x
     from_goes (Some bytes) (Some old) (Some new) line (Some s0) (Some s) (Some t) e a b read next goes more x =
-        reaches_then (lines_script counting bytes s0) (ahead_script counting old n s) (ahead_script counting new (n - 1) t) e a b read (line_goes old new line n s t a b next goes more x)
+        rises_then (lines_script counting bytes s0) (ahead_script counting old n s) (ahead_script counting new (n - 1) t) s0.core.version s.core.version t.core.version e a b read (line_goes old new line n s t a b next goes more x)
 
     -- a line was done, and others may follow
     pub read_goes : (given ahead later : Option (List ℕ)) (line : Line) (m0 m m' : Moment) → HasRead counting given ahead n m0 m → NextLine ahead line later → goes_on line ≡ true → 1 < n → DoesPart (read_part counting line) m m' →
@@ -183,9 +212,9 @@ module _ (counting : Counting) where
     abbrev Ends : {T : Type 0} → Option (List ℕ) → Option Scene → Outside → Outside → Result T Stop → Type 0
     Ends given s0 e b result = IfSome given (λ text. IfSome s0 (λ s. EndsScript (lines_script counting text s) e b result))
 
-    limited : (bytes old : List ℕ) (s0 s : Scene) (e a b : Outside) → ReadFrom counting (Some bytes) (Some old) n (Some s0) (Some s) e a → Finishes (ahead_script counting old n s) Limit a b → Halted (lines_script counting bytes s0) stop.LimitReached e b
+    limited : (bytes old : List ℕ) (s0 s : Scene) (e a b : Outside) → ReachesCounted (lines_script counting bytes s0) (ahead_script counting old n s) s0.core.version s.core.version e a → Finishes (ahead_script counting old n s) Limit a b → Halted (lines_script counting bytes s0) stop.LimitReached e b
     limited bytes old s0 s e a b read x =
-        let all = reaches_finishes (lines_script counting bytes s0) (ahead_script counting old n s) Limit e a b read x in
+        let all = reaches_finishes (lines_script counting bytes s0) (ahead_script counting old n s) Limit e a b read.reaches x in
         (finishes_halts (lines_script counting bytes s0) Limit e b all, λ is. all)
 
     from_last : (T : Type 0) (given ahead later : Option (List ℕ)) (line : Line) (s0 s t : Option Scene) (e a b : Outside) → ReadFrom counting given ahead n s0 s e a → NextLine ahead line later → goes_on line ≡ true → n ≤ 1 → DoesFrom (read_part counting line) s t a b →
@@ -212,7 +241,24 @@ module _ (counting : Counting) where
     from_ends y (Some bytes) (Some old) None line (Some s0) (Some s) t e a b read next quits x = absurd next
     from_ends y (Some bytes) (Some old) (Some new) line (Some s0) (Some s) None e a b read next quits x = absurd x
     from_ends y (Some bytes) (Some old) (Some new) line (Some s0) (Some s) (Some t) e a b read next quits x =
-        reaches_finishes (lines_script counting bytes s0) (ahead_script counting old n s) Quits e a b read (line_ends old new line n s t a b next quits x)
+        reaches_finishes (lines_script counting bytes s0) (ahead_script counting old n s) Quits e a b read.reaches (line_ends old new line n s t a b next quits x)
+
+    -- the same up to a version
+    counted_at : (given ahead later : Option (List ℕ)) (line : Line) (s0 s t : Option Scene) (v : ℕ) (e a b : Outside) → ReadFrom counting given ahead n s0 s e a → NextLine ahead line later → goes_on line ≡ false →
+        DoesFrom (read_part counting line) s t a b → IfSome t (λ u. u.core.version ≡ v) → IfSome given (λ text. IfSome s0 (λ u. FinishesCounted (lines_script counting text u) Quits u.core.version v e b))
+    counted_at None ahead later line s0 s t v e a b read next quits x is = tt
+    counted_at (Some bytes) ahead later line None s t v e a b read next quits x is = tt
+    counted_at (Some bytes) None later line (Some s0) s t v e a b read next quits x is = absurd read
+    counted_at (Some bytes) (Some old) later line (Some s0) None t v e a b read next quits x is = absurd read
+    counted_at (Some bytes) (Some old) None line (Some s0) (Some s) t v e a b read next quits x is = absurd next
+    counted_at (Some bytes) (Some old) (Some new) line (Some s0) (Some s) None v e a b read next quits x is = absurd x
+    counted_at (Some bytes) (Some old) (Some new) line (Some s0) (Some s) (Some t) v e a b read next quits x is =
+        rises_finishes (lines_script counting bytes s0) (ahead_script counting old n s) Quits s0.core.version s.core.version v e a b read
+        (subst (λ (w : ℕ). FinishesCounted (ahead_script counting old n s) Quits s.core.version w a b) is (line_rests old new line n s t a b next quits x))
+
+    pub read_counted : (given ahead later : Option (List ℕ)) (line : Line) (m0 m m' : Moment) (v : ℕ) → HasRead counting given ahead n m0 m → NextLine ahead line later → goes_on line ≡ false →
+        DoesPart (read_part counting line) m m' → IfSome m'.scene (λ u. u.core.version ≡ v) → CountsLines counting given m0 m' v
+    read_counted given ahead later line m0 m m' v read next quits x is = counted_at given ahead later line m0.scene m.scene m'.scene v m0.outside m.outside m'.outside read next quits x is
 
     -- the session ended with a line, or the input has ended
     pub read_ends : {T : Type 0} (y : T) (given ahead later : Option (List ℕ)) (line : Line) (m0 m m' : Moment) → HasRead counting given ahead n m0 m → NextLine ahead line later → goes_on line ≡ false → DoesPart (read_part counting line) m m' →
@@ -228,8 +274,8 @@ module _ (counting : Counting) where
     from_stops T z (Some bytes) (Some old) None line (Some s0) (Some s) e a b read next x = absurd next
     from_stops T z (Some bytes) (Some old) (Some new) line (Some s0) (Some s) e a b read next x =
         let halted = line_stops old new line n z s a b next x in (
-          reaches_halts (lines_script counting bytes s0) (ahead_script counting old n s) e a b read halted.0,
-          λ is. reaches_finishes (lines_script counting bytes s0) (ahead_script counting old n s) Limit e a b read (halted.1 is),
+          reaches_halts (lines_script counting bytes s0) (ahead_script counting old n s) e a b read.reaches halted.0,
+          λ is. reaches_finishes (lines_script counting bytes s0) (ahead_script counting old n s) Limit e a b read.reaches (halted.1 is),
         )
 
     -- a line stopped
@@ -247,7 +293,7 @@ module _ (counting : Counting) where
     from_fault T f (Some bytes) None (Some s0) s e a read = absurd read
     from_fault T f (Some bytes) (Some old) (Some s0) None e a read = absurd read
     from_fault T f (Some bytes) (Some old) (Some s0) (Some s) e a read =
-        (reaches_halts (lines_script counting bytes s0) (ahead_script counting old n s) e a a read (not_begun (ahead_script counting old n s) a), λ is. absurd (unlimited f is))
+        (reaches_halts (lines_script counting bytes s0) (ahead_script counting old n s) e a a read.reaches (not_begun (ahead_script counting old n s) a), λ is. absurd (unlimited f is))
 
     -- no line was read
     pub read_faults : (T : Type 0) (f : LineFault) (given ahead : Option (List ℕ)) (m0 m : Moment) → HasRead counting given ahead n m0 m → DoesLines counting given m0 m {T = T} (Err (line_stop f))

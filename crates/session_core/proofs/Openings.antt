@@ -1,6 +1,6 @@
 -- A session from the opening of its desk on.
-use Rattle.std.proofs.Common.{◌≡◌, ℕ, List, [], ◌∷◌, refl, sym, ap, subst, ◌∙◌, inl, inr}
-use Rattle.std.specs.Prelude.{◌⊎◌, IfSome, MatchResult}
+use Rattle.std.proofs.Common.{◌≡◌, ◌≢◌, ℕ, arith, List, [], ◌∷◌, refl, sym, ap, subst, ◌∙◌, inl, inr}
+use Rattle.std.specs.Prelude.{◌⊎◌, IfOk, IfSome, MatchResult}
 use Rattle.std.specs.declared.option.Option.{Option}
 use Rattle.std.specs.declared.option.Option.TheVariants.{None, Some}
 use Rattle.std.specs.declared.result.Result.{Result}
@@ -29,17 +29,19 @@ use Rattle.session_rules.specs.Outside.{Did, Outside, WereKnown}
 use Rattle.session_rules.specs.Scenes.{Ends, reading_now, readings_later}
 use Rattle.session_rules.specs.Sessions.{Finishes, Halts, IsSession, Reaches, Script, end_reached}
 use Rattle.session_rules.specs.Transcripts.{Bad, End, Limit, Quits, Transcript, ended, session_of, session_on, transcript}
+use Rattle.session_rules.specs.Versions.{FinishesCounted, ReachesCounted}
 use Rattle.session_rules.specs.declared.ends.SessionEnd.{SessionEnd}
 use Rattle.session_rules.specs.declared.ends.SessionEnd.TheVariants as end
 use Rattle.session_rules.proofs.Doing.{commit_failed, committed_so, did_still, did_stops, still_failed}
 use Rattle.session_rules.proofs.Growing.{if_some, if_some_at, kept_known}
 use Rattle.session_rules.proofs.Scripts.{finishes_halts, reaches_finishes, reaches_halts}
+use Rattle.session_rules.proofs.Versions.{rises_finishes, start_version}
 use Rattle.session_core.specs.Doing.{Moment, scene_of}
 use Rattle.session_core.specs.Lines.{EndsScript}
-use Rattle.session_core.specs.Runs.{IsSessionOn, IsSessionOver, Subject, with_exits}
+use Rattle.session_core.specs.Runs.{IsCountedOn, IsSessionOn, IsSessionOver, Subject, script_on, with_exits}
 use Rattle.session_core.specs.declared.stop.Stop.{Stop}
 use Rattle.session_core.specs.declared.stop.Stop.TheVariants as stop
-use Rattle.session_core.specs.inside.Opening.{DoesCommitted, committed_script, end_of_fault, end_of_stop}
+use Rattle.session_core.specs.inside.Opening.{CountsCommitted, DoesCommitted, committed_script, end_of_fault, end_of_stop}
 use Rattle.session_core.proofs.Played.{at}
 
 -- ---- the end of a script, and that of its session
@@ -53,6 +55,21 @@ end_of (Err z) = end_of_stop z
 pub end_is : {T : Type 0} (run : Result T Stop) (result : SessionEnd) → MatchResult run (λ _. result ≡ end.Quit) (λ z. result ≡ end_of_stop z) → result ≡ end_of run
 end_is (Ok x) result is = is
 end_is (Err z) result is = is
+
+-- what stops a session is no end of its input, nor is what kept its desk from being opened
+not_quit : (z : Stop) → end_of_stop z ≢ end.Quit
+not_quit stop.ReadFault = λ is. cc
+not_quit stop.WriteFault = λ is. cc
+not_quit stop.KeeperFault = λ is. cc
+not_quit stop.NoMemory = λ is. cc
+not_quit stop.LimitReached = λ is. cc
+
+pub fault_not_quit : (f : DeskFault) → end_of_fault f ≢ end.Quit
+fault_not_quit (fault.Refused r) = λ is. cc
+fault_not_quit fault.Keeper = λ is. cc
+fault_not_quit (fault.BadRow table n) = λ is. cc
+fault_not_quit (fault.Closed by) = λ is. cc
+fault_not_quit fault.NoMemory = λ is. cc
 
 stop_is_session : (t : Script) (z : Stop) (e e' : Outside) → Halts t e e' → (z ≡ stop.LimitReached → Finishes t Limit e e') → IsSession t (end_of_stop z) e e'
 stop_is_session t stop.ReadFault e e' halts limit = (halts, tt)
@@ -132,13 +149,21 @@ module _ (x : Subject) (bytes readings : List ℕ) (contents : Contents) where
     unopened_is is = ap (opened_by opens t) well ∙ ap (λ o. with_start o t) is
 
     -- the opening was committed
-    opening_reaches : (s : CoreState) (e : Outside) (k : Known) → opens (durable_in t) ≡ Some s → BecomesBy (committed (opening_reply s).delta) e.keeper k → IsSure k →
+    unfoldable opening_reaches : (s : CoreState) (e : Outside) (k : Known) → opens (durable_in t) ≡ Some s → BecomesBy (committed (opening_reply s).delta) e.keeper k → IsSure k →
         Reaches (over (loaded t)) (committed_script x.counting bytes (at s (reading_now readings) (readings_later readings) contents)) e (record e { keeper = k })
     opening_reaches s e k is becomes sure = record {
       outputs = Commit (opening_reply s).delta ∷ [];
       goes = λ more. over_is (Some s) is more;
       did = committed_so (opening_reply s).delta e k becomes sure;
     }
+
+    -- so it begins with version 1
+    opening_rises : (s : CoreState) (e : Outside) (k : Known) → opens (durable_in t) ≡ Some s → BecomesBy (committed (opening_reply s).delta) e.keeper k → IsSure k →
+        ReachesCounted (over (loaded t)) (committed_script x.counting bytes (at s (reading_now readings) (readings_later readings) contents)) 0 s.version e (record e { keeper = k })
+    unfolding opening_reaches
+    opening_rises s e k is becomes sure =
+        let first : s.version ≡ 1 = start_version x.program (durable_in t) x.threshold (reading_now readings) s is in
+        record { reaches = opening_reaches s e k is becomes sure; versions = omega (arith, first) }
 
     -- it was not committed: the keeper failed
     opening_fails : (o : Option CoreState) (e : Outside) (k : Known) → opens (durable_in t) ≡ o → e.keeper.tables ≡ Some (Current t) →
@@ -219,6 +244,58 @@ module _ {K : Type 0} (known : K → Known) (faults : K → ℕ) (x : Subject) w
         if_some e.keeper.tables _ (λ (s : Stored) (was : e.keeper.tables ≡ Some s). if_some m.outside.keeper.tables _ (λ (v : Stored) (now : m.outside.keeper.tables ≡ Some v).
         let middle = if_some_at m.outside.keeper.tables (λ (q : Stored). (u : Stored) × ((known d.keeper).tables ≡ Some u)) v (ends_known _ run mid m.outside ends) now in
         by_tables b ts g s middle.0 opened was middle.1 ends))
+
+  module _ (k : K) (d : DeskState K) (done : Done) (e : Outside) (m : Moment) (asked : e.keeper ≡ known k) (v : ℕ) where
+    -- outside after the opening
+    abbrev opened_outside : Outside
+    opened_outside = record e { keeper = known d.keeper }
+
+    -- the version at the end of a session over these tables
+    counted_over : (bytes ts : List ℕ) (g : Contents) (t : Stock) → IsWellFormed t → IsDeskOpened known faults (opens_at (reading_now ts)) k d done → e.keeper.tables ≡ Some (Current t) →
+        opens_at (reading_now ts) (durable_in t) ≡ Some d.engine.core →
+        FinishesCounted (committed_script x.counting bytes (at d.engine.core (reading_now ts) (readings_later ts) g)) Quits d.engine.core.version v opened_outside m.outside →
+        FinishesCounted (script_on x (with_exits bytes ts g) (loaded t)) Quits 0 v e m.outside
+    counted_over bytes ts g t well o tables is ends =
+        let agrees : (y : Stored) → e.keeper.tables ≡ Some y → opened_tables (opens_at (reading_now ts)) y ≡ committed (opening_reply d.engine.core).delta y =
+        (λ y there. let same : y ≡ Current t = some_is y (Current t) (sym there ∙ tables) in
+        ap (opened_tables (opens_at (reading_now ts))) same ∙ opened_is x bytes ts g t well d.engine.core is ∙ ap (committed (opening_reply d.engine.core).delta) (sym same)) in
+        let stored : BecomesBy (opened_tables (opens_at (reading_now ts))) e.keeper (known d.keeper) = subst (λ (q : Known). BecomesBy (opened_tables (opens_at (reading_now ts))) q (known d.keeper)) (sym asked) o.stored in
+        rises_finishes (script_on x (with_exits bytes ts g) (loaded t)) (committed_script x.counting bytes (at d.engine.core (reading_now ts) (readings_later ts) g)) Quits 0 d.engine.core.version v
+        e opened_outside m.outside
+        (opening_rises x bytes ts g t well d.engine.core e (known d.keeper) is (becomes_as _ _ e.keeper (known d.keeper) agrees stored) o.sure)
+        ends
+
+    counted_in : (bytes ts : List ℕ) (g : Contents) (s u : Stored) → IsDeskOpened known faults (opens_at (reading_now ts)) k d done → e.keeper.tables ≡ Some s → (known d.keeper).tables ≡ Some u →
+        FinishesCounted (committed_script x.counting bytes (at d.engine.core (reading_now ts) (readings_later ts) g)) Quits d.engine.core.version v opened_outside m.outside →
+        IfSome (loaded_of s) (λ tables. FinishesCounted (script_on x (with_exits bytes ts g) tables) Quits 0 v e m.outside)
+    counted_in bytes ts g s u o was is ends =
+        let r : IsReadFrom o.durable s = read_at {T = Unit {0}} (Ok tt) k d done e m asked (reading_now ts) o s u was is o.durable o.read in
+        subst (λ (y : Stored). IfSome (loaded_of y) (λ tables. FinishesCounted (script_on x (with_exits bytes ts g) tables) Quits 0 v e m.outside)) (sym r.is)
+        (counted_over bytes ts g r.contents r.well_formed o (was ∙ ap Some r.is) (ap (opens_at (reading_now ts)) (sym r.durable) ∙ o.opening.state) ends)
+
+    counted_given : (last : ℕ) (b r r' : Option (List ℕ)) (c : Option Contents) → IsDeskOpened known faults (opens_at last) k d done → TakesReading r last r' →
+        CountsCommitted x.counting b (record { scene = scene_of d.engine.core last r' c; outside = opened_outside }) m v →
+        IsCountedOn x (record { bytes = b; readings = r; contents = c }) end.Quit v e m.outside
+    counted_given last None r r' c o takes does = λ _. tt
+    counted_given last (Some b) None r' c o takes does = λ _. tt
+    counted_given last (Some b) (Some ts) None c o takes does = absurd takes
+    counted_given last (Some b) (Some ts) (Some us) None o takes does = λ _. tt
+    counted_given last (Some b) (Some ts) (Some us) (Some g) o takes does = λ _.
+        let is = reading_is ts us last takes in
+        let opened : IsDeskOpened known faults (opens_at (reading_now ts)) k d done = subst (λ (n : ℕ). IsDeskOpened known faults (opens_at n) k d done) is.0 o in
+        let ends : FinishesCounted (committed_script x.counting b (at d.engine.core (reading_now ts) (readings_later ts) g)) Quits d.engine.core.version v opened_outside m.outside =
+        subst (λ (p : ℕ × List ℕ). FinishesCounted (committed_script x.counting b (at d.engine.core p.0 p.1 g)) Quits d.engine.core.version v opened_outside m.outside) (λ i. (is.0 i, is.1 i)) does in
+        if_some e.keeper.tables _ (λ (s : Stored) (was : e.keeper.tables ≡ Some s). if_some m.outside.keeper.tables _ (λ (w : Stored) (now : m.outside.keeper.tables ≡ Some w).
+        let known_now = kept_known opened_outside.keeper m.outside.keeper (deltas ends.finishes.outputs) ends.finishes.did.kept in
+        let middle = if_some_at m.outside.keeper.tables (λ (q : Stored). (u : Stored) × ((known d.keeper).tables ≡ Some u)) w known_now now in
+        counted_in b ts g s middle.0 opened was middle.1 ends))
+
+    -- the version at the end of a session whose desk was opened
+    pub counted_to : {T : Type 0} (run : Result T Stop) (last : ℕ) (b r r' : Option (List ℕ)) (c : Option Contents) → IsDeskOpened known faults (opens_at last) k d done → TakesReading r last r' →
+        IfOk run (λ _. CountsCommitted x.counting b (record { scene = scene_of d.engine.core last r' c; outside = opened_outside }) m v) →
+        IsCountedOn x (record { bytes = b; readings = r; contents = c }) (end_of run) v e m.outside
+    counted_to (Ok y) last b r r' c o takes does = counted_given last b r r' c o takes does
+    counted_to (Err z) last b r r' c o takes does = λ is. absurd (not_quit z is)
 
   -- ---- a desk that was not opened
 

@@ -1,5 +1,5 @@
 -- Parts from a moment to another one, by what is known of the ends.
-use Rattle.std.proofs.Common.{ℕ, List, []}
+use Rattle.std.proofs.Common.{◌≡◌, ℕ, List, [], refl}
 use Rattle.std.specs.Prelude.{IfSome}
 use Rattle.std.specs.declared.option.Option.{Option}
 use Rattle.std.specs.declared.option.Option.TheVariants.{None, Some}
@@ -29,3 +29,9 @@ module _ (part : Part) (z : Stop) (c : CoreState) (last : ℕ) (e e' : Outside) 
   stops_from None f stops = tt
   stops_from (Some r) None stops = tt
   stops_from (Some r) (Some g) stops = stops r g
+
+-- the version of a scene is that of its core
+pub scene_version : (c : CoreState) (last : ℕ) (rs : Option (List ℕ)) (f : Option Contents) → IfSome (scene_of c last rs f) (λ s. s.core.version ≡ c.version)
+scene_version c last None f = tt
+scene_version c last (Some r) None = tt
+scene_version c last (Some r) (Some g) = refl

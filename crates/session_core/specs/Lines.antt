@@ -7,6 +7,7 @@ use Rattle.session_rules.specs.Scenes.{Scene, expecting}
 use Rattle.session_rules.specs.Sessions.{Finishes, Halts, Script}
 use Rattle.session_rules.specs.Steps.{Counting}
 use Rattle.session_rules.specs.Transcripts.{Limit, Quits, line_count, lines_from}
+use Rattle.session_rules.specs.Versions.{FinishesCounted}
 use Rattle.session_core.specs.Doing.{Counts, IsCausedBy, Moment}
 use Rattle.session_core.specs.declared.stop.Stop.{Stop}
 use Rattle.session_core.specs.declared.stop.Stop.TheVariants as stop
@@ -26,6 +27,12 @@ abbrev pub DoesLines :
 DoesLines counting bytes m m' result =
     IfSome bytes (λ text. IfSome m.scene (λ s.
     EndsScript (lines_script counting text s) m.outside m'.outside result))
+
+-- all lines were done up to this version, if the bytes and the scene are known
+abbrev pub CountsLines : Counting → Option (List ℕ) → Moment → Moment → ℕ → Type 0
+CountsLines counting bytes m m' version =
+    IfSome bytes (λ text. IfSome m.scene (λ s.
+    FinishesCounted (lines_script counting text s) Quits s.core.version version m.outside m'.outside))
 
 -- a stop among the lines has its cause; the input or a file could not be read
 abbrev pub IsCausedIn : Stop → ℕ → ℕ → Counts → Counts → Type 0

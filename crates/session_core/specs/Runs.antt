@@ -13,9 +13,10 @@ use Rattle.session_rules.specs.declared.ends.SessionEnd.{SessionEnd}
 use Rattle.session_rules.specs.declared.ends.SessionEnd.TheVariants as stop
 use Rattle.session_rules.specs.Outside.{Outside, Stopped}
 use Rattle.session_rules.specs.Scenes.{Ends}
-use Rattle.session_rules.specs.Sessions.{IsSession, end_reached}
+use Rattle.session_rules.specs.Sessions.{IsSession, Script, end_reached}
 use Rattle.session_rules.specs.Steps.{Counting}
-use Rattle.session_rules.specs.Transcripts.{transcript}
+use Rattle.session_rules.specs.Transcripts.{Quits, transcript}
+use Rattle.session_rules.specs.Versions.{FinishesCounted}
 use Rattle.session_core.specs.declared.ends.Ends.{Ends as Parts}
 
 -- what a session is about: its program, the level from which on jobs wait to be confirmed, and whether it counts evaluations
@@ -44,6 +45,10 @@ given_by left readings held s e = record { bytes = left s; readings = readings e
 abbrev pub with_exits : List ℕ → List ℕ → Contents → List Exit → Ends
 with_exits bytes readings contents exits = record { bytes = bytes; readings = readings; contents = contents; exits = exits }
 
+-- all that a session does over loaded tables, by the exits that come
+abbrev pub script_on : Subject → (List Exit → Ends) → Tables → Script
+script_on x ends tables exits = transcript x.program tables x.threshold x.counting (ends exits)
+
 -- a session over loaded tables; over those that can't be loaded nothing is done
 abbrev pub IsSessionOver : Subject → (List Exit → Ends) → Option Tables → SessionEnd → Outside → Outside → Type 0
 IsSessionOver x ends (Some tables) end e e' =
@@ -56,6 +61,14 @@ IsSessionOn x given end e e' =
     IfSome given.bytes (λ bytes. IfSome given.readings (λ readings. IfSome given.contents (λ contents.
     IfSome e.keeper.tables (λ store. IfSome e'.keeper.tables (λ _.
     IsSessionOver x (with_exits bytes readings contents) (loaded_of store) end e e')))))
+
+-- a session that came to the end of its input has this version: the number of its commits
+abbrev pub IsCountedOn : Subject → Given → SessionEnd → ℕ → Outside → Outside → Type 0
+IsCountedOn x given end version e e' =
+    end ≡ stop.Quit →
+    IfSome given.bytes (λ bytes. IfSome given.readings (λ readings. IfSome given.contents (λ contents.
+    IfSome e.keeper.tables (λ store. IfSome e'.keeper.tables (λ _. IfSome (loaded_of store) (λ tables.
+    FinishesCounted (script_on x (with_exits bytes readings contents) tables) Quits 0 version e e'))))))
 
 -- ---- causes
 

@@ -3,7 +3,7 @@ ghost use Rattle.std.specs.Prelude.{◌≡◌, IfOk, not};
 ghost use Rattle.io_ends.specs.Lines.{text_line};
 ghost use Rattle.session_rules.specs.Transcripts.{is_quit, line_part};
 ghost use Rattle.session_core.specs.Doing.{Causes, Plays, counts, seen};
-ghost use Rattle.session_core.specs.Lines.{DoesLines, LinesCause};
+ghost use Rattle.session_core.specs.Lines.{CountsLines, DoesLines, LinesCause};
 ghost use Rattle.session_core.specs.Numbers.{counting};
 ghost use Rattle.session_core.specs.inside.ReadLines.{goes_on, line_stop, read_part};
 
@@ -85,6 +85,9 @@ impl<K: Keeper, G: Ledger, N: Numbering> Session<K, G, N> {
         ensures lines { let see = seen K.known O.written L.runs C.readings F.held in
             DoesLines (counting N.shows) (S.left input.old)
             (see self.old ends.old) (see self.new ends.new) result }
+        ensures version { let see = seen K.known O.written L.runs C.readings F.held in
+            IfOk result (λ _. CountsLines (counting N.shows) (S.left input.old)
+            (see self.old ends.old) (see self.new ends.new) self.new.desk.engine.core.version) }
         ensures cause { let count = counts K.faults O.faults F.faults in
             LinesCause (S.faults input.old) (S.faults input.new)
             (count self.old ends.old) (count self.new ends.new) result }

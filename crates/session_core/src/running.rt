@@ -1,11 +1,12 @@
 //! A whole session.
-ghost use Rattle.std.specs.Prelude.{◌≡◌, ◌<◌, Err, Ok, MatchResult};
+ghost use Rattle.std.specs.Prelude.{◌≡◌, ◌<◌, Err, Ok, IfOk, MatchResult};
 ghost use Rattle.core_rules.specs.Entries.{fresh_of};
 ghost use Rattle.core_rules.specs.Openings.{opening_reply};
 ghost use Rattle.session_core.specs.Doing.{Causes, Plays, counts, seen};
 ghost use Rattle.session_core.specs.Lines.{LinesCause};
 ghost use Rattle.session_core.specs.Numbers.{counting};
-ghost use Rattle.session_core.specs.Runs.{IsEndCaused, IsSessionOn, Subject, faults_of, given_by, outside};
+ghost use Rattle.session_core.specs.Runs.{IsCountedOn, IsEndCaused, IsSessionOn};
+ghost use Rattle.session_core.specs.Runs.{Subject, faults_of, given_by, outside};
 ghost use Rattle.session_core.specs.inside.Opening as opening;
 
 use crate::ends::Ends;
@@ -113,6 +114,9 @@ impl<K: Keeper, G: Ledger, N: Numbering> Session<K, G, N> {
         ensures script { let see = seen K.known O.written L.runs C.readings F.held in
             opening.DoesCommitted (counting N.shows) (S.left input.old)
             (see self.old ends.old) (see self.new ends.new) result }
+        ensures version { let see = seen K.known O.written L.runs C.readings F.held in
+            IfOk result (λ _. opening.CountsCommitted (counting N.shows) (S.left input.old)
+            (see self.old ends.old) (see self.new ends.new) self.new.desk.engine.core.version) }
         ensures cause { let count = counts K.faults O.faults F.faults in
             LinesCause (S.faults input.old) (S.faults input.new)
             (count self.old ends.old) (count self.new ends.new) result }
@@ -138,7 +142,7 @@ fn counted_session<
     ends: &mut Ends<O, L, C, F>,
     alloc: Global,
     blank: Blank,
-) -> (K, SessionEnd)
+) -> (K, SessionEnd, u64)
     requires name { blank.name ≡ G.name }
     requires parts { blank.parts ≡ G.parts }
     requires some { 0 < blank.parts }
@@ -150,6 +154,15 @@ fn counted_session<
           counting = counting N.shows;
         } in
         IsSessionOn subject given result.1 (out start.keeper ends.old) (out result.0 ends.new) }
+    ensures version { let out = outside K.known O.written L.runs in
+        let given = given_by S.left C.readings F.held input.old ends.old in
+        let subject : Subject = record {
+          program = start.checked;
+          threshold = start.threshold;
+          counting = counting N.shows;
+        } in
+        IsCountedOn subject given result.1 result.2
+        (out start.keeper ends.old) (out result.0 ends.new) }
     ensures cause { let faults = faults_of S.faults K.faults O.faults F.faults in
         IsEndCaused result.1 (faults input.old start.keeper ends.old)
         (faults input.new result.0 ends.new) }
@@ -171,20 +184,21 @@ fn counted_session<
                 numbering: PhantomData,
             };
             let run = session.run(ends, input, done);
-            (session.desk.into_keeper(), end_of_run(run))
+            let version = session.desk.engine().version();
+            (session.desk.into_keeper(), end_of_run(run), version)
         }
-        Err((keeper, fault)) => (keeper, end_of_fault(fault)),
+        Err((keeper, fault)) => (keeper, end_of_fault(fault), 0),
     }
 }
 
 /// Opens the desk, and then does what the lines of the input ask for. At each end it hands the
-/// keeper back.
+/// keeper back, with the version of the desk; without a desk that is 0.
 pub fn run_session<S: Source, K: Keeper, O: Sink, L: Launcher, C: Clock, F: Files, N: Numbering>(
     alloc: Global,
     start: Start<K>,
     input: &mut S,
     ends: &mut Ends<O, L, C, F>,
-) -> (K, SessionEnd)
+) -> (K, SessionEnd, u64)
     ensures session { let out = outside K.known O.written L.runs in
         let given = given_by S.left C.readings F.held input.old ends.old in
         let subject : Subject = record {
@@ -193,6 +207,15 @@ pub fn run_session<S: Source, K: Keeper, O: Sink, L: Launcher, C: Clock, F: File
           counting = counting N.shows;
         } in
         IsSessionOn subject given result.1 (out start.keeper ends.old) (out result.0 ends.new) }
+    ensures version { let out = outside K.known O.written L.runs in
+        let given = given_by S.left C.readings F.held input.old ends.old in
+        let subject : Subject = record {
+          program = start.checked;
+          threshold = start.threshold;
+          counting = counting N.shows;
+        } in
+        IsCountedOn subject given result.1 result.2
+        (out start.keeper ends.old) (out result.0 ends.new) }
     ensures cause { let faults = faults_of S.faults K.faults O.faults F.faults in
         IsEndCaused result.1 (faults input.old start.keeper ends.old)
         (faults input.new result.0 ends.new) }

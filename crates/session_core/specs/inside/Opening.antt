@@ -12,7 +12,8 @@ use Rattle.session_rules.specs.Parts.{Part, does, then_do}
 use Rattle.session_rules.specs.Scenes.{Scene, expecting}
 use Rattle.session_rules.specs.Sessions.{Script}
 use Rattle.session_rules.specs.Steps.{Counting, all_orders}
-use Rattle.session_rules.specs.Transcripts.{continued, line_count, lines_from}
+use Rattle.session_rules.specs.Transcripts.{Quits, continued, line_count, lines_from}
+use Rattle.session_rules.specs.Versions.{FinishesCounted}
 use Rattle.session_rules.specs.Watching.{watch_all}
 use Rattle.session_rules.specs.declared.ends.SessionEnd.{SessionEnd}
 use Rattle.session_rules.specs.declared.ends.SessionEnd.TheVariants as end
@@ -41,6 +42,12 @@ abbrev pub DoesCommitted :
 DoesCommitted counting bytes m m' result =
     IfSome bytes (λ text. IfSome m.scene (λ s.
     EndsScript (committed_script counting text s) m.outside m'.outside result))
+
+-- all of it was done up to this version, if the bytes and the scene are known
+abbrev pub CountsCommitted : Counting → Option (List ℕ) → Moment → Moment → ℕ → Type 0
+CountsCommitted counting bytes m m' version =
+    IfSome bytes (λ text. IfSome m.scene (λ s.
+    FinishesCounted (committed_script counting text s) Quits s.core.version version m.outside m'.outside))
 
 -- the end of a session whose desk wasn't opened
 abbrev pub end_of_fault : DeskFault → SessionEnd

@@ -12,7 +12,8 @@ use Rattle.report_text.specs.declared.controls.Control.TheVariants.{Empty, Event
 use Rattle.session_rules.specs.Outside.{Outside}
 use Rattle.session_rules.specs.Parts.{Part, nothing, then_do}
 use Rattle.session_rules.specs.Scenes.{Scene, expecting}
-use Rattle.session_rules.specs.Sessions.{Reaches, Script}
+use Rattle.session_rules.specs.Sessions.{Script}
+use Rattle.session_rules.specs.Versions.{ReachesCounted}
 use Rattle.session_rules.specs.Steps.{Counting, all_orders}
 use Rattle.session_rules.specs.Transcripts.{is_quit, line_part, lines_from}
 use Rattle.session_rules.specs.Watching.{watch_all}
@@ -63,7 +64,7 @@ line_stop fault.NoMemory = stop.NoMemory
 abbrev pub ahead_script : Counting → List ℕ → ℕ → Scene → Script
 ahead_script counting bytes n s exits = lines_from counting (lines_of bytes) n (expecting exits s)
 
--- of the input and the bytes ahead, if they are known: all up to the bytes ahead was done
+-- of the input and the bytes ahead, if they are known: all up to the bytes ahead was done, and each commit raised the version
 abbrev pub ReadFrom :
     Counting → Option (List ℕ) → Option (List ℕ) → ℕ → Option Scene → Option Scene → Outside → Outside → Type 0
 ReadFrom counting None ahead n s0 s e e' = Unit {0}
@@ -71,7 +72,7 @@ ReadFrom counting (Some bytes) ahead n None s e e' = Unit {0}
 ReadFrom counting (Some bytes) None n (Some s0) s e e' = ⊥
 ReadFrom counting (Some bytes) (Some rest) n (Some s0) None e e' = ⊥
 ReadFrom counting (Some bytes) (Some rest) n (Some s0) (Some s) e e' =
-    Reaches (lines_script counting bytes s0) (ahead_script counting rest n s) e e'
+    ReachesCounted (lines_script counting bytes s0) (ahead_script counting rest n s) s0.core.version s.core.version e e'
 
 -- the same from a moment to another one
 abbrev pub HasRead : Counting → Option (List ℕ) → Option (List ℕ) → ℕ → Moment → Moment → Type 0

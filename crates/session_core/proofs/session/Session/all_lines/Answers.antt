@@ -7,7 +7,8 @@ use Rattle.session_core.specs.Doing.{seen}
 use Rattle.session_core.specs.Lines.{DoesLines}
 use Rattle.session_core.specs.Numbers.{counting}
 use Rattle.session_core.specs.inside.ReadLines.{line_stop}
-use Rattle.session_core.proofs.LineLoop.{read_ends, read_faults, read_goes, read_last, read_starts, read_stops}
+use Rattle.session_core.proofs.LineLoop.{read_counted, read_ends, read_faults, read_goes, read_last, read_starts, read_stops}
+use Rattle.session_core.proofs.Played.{scene_version}
 use Rattle.session_core.proofs.Playing.{passed_on}
 use Rattle.session_core.proofs.session.Session.all_lines.Goals as goal
 
@@ -39,6 +40,13 @@ returns-then-not-branch-clause-lines g c =
     let done : Unit {0} = tt in
     read_ends (counting g.N.Numbering.shows) c.lines.left done (g.S.Source.left c.args.input.now) (prepend_known c.lines.reader (g.S.Source.left c.lines.input)) (prepend_known c.next.new.self (g.S.Source.left c.next.new.source)) c.in_ok-line.line (seen g.K.Keeper.known g.O.Sink.written g.L.Launcher.runs g.C.Clock.readings g.F.Files.held c.args.self.now c.args.ends.now) (seen g.K.Keeper.known g.O.Sink.written g.L.Launcher.runs g.C.Clock.readings g.F.Files.held c.lines.self c.lines.ends) (seen g.K.Keeper.known g.O.Sink.written g.L.Launcher.runs g.C.Clock.readings g.F.Files.held c.next_line.new.self c.next_line.new.ends)
     c.lines.invariant.so_far c.in_ok-line.ensures.line (sym c.in_ok-next_line.ensures.more ∙ c.if-not-branch.true) c.in_ok-next_line.ensures.part
+
+pub returns-then-not-branch-clause-version : goal.returns-then-not-branch-clause-version
+returns-then-not-branch-clause-version g c =
+    let now = c.next_line.new.self in
+    let ends = c.next_line.new.ends in
+    read_counted (counting g.N.Numbering.shows) c.lines.left (g.S.Source.left c.args.input.now) (prepend_known c.lines.reader (g.S.Source.left c.lines.input)) (prepend_known c.next.new.self (g.S.Source.left c.next.new.source)) c.in_ok-line.line (seen g.K.Keeper.known g.O.Sink.written g.L.Launcher.runs g.C.Clock.readings g.F.Files.held c.args.self.now c.args.ends.now) (seen g.K.Keeper.known g.O.Sink.written g.L.Launcher.runs g.C.Clock.readings g.F.Files.held c.lines.self c.lines.ends) (seen g.K.Keeper.known g.O.Sink.written g.L.Launcher.runs g.C.Clock.readings g.F.Files.held now ends) now.desk.engine.core.version
+    c.lines.invariant.so_far c.in_ok-line.ensures.line (sym c.in_ok-next_line.ensures.more ∙ c.if-not-branch.true) c.in_ok-next_line.ensures.part (scene_version now.desk.engine.core now.last (g.C.Clock.readings ends.clock) (g.F.Files.held ends.files))
 
 pub returns-then-left-eq0-clause-lines : goal.returns-then-left-eq0-clause-lines
 returns-then-left-eq0-clause-lines g c =
