@@ -17,10 +17,11 @@ use Rattle.keeper_core.specs.Contents.{Contents}
 use Rattle.keeper_core.specs.EitherSchema.{committed, is_old}
 use Rattle.keeper_core.specs.KeeperCalls as calls
 use Rattle.sql_keeper.specs.Kept.{Kept, MayLeave, known_of, tables_of}
-use Rattle.sql_keeper.specs.Rows.{contents}
-use Rattle.sql_keeper.specs.inside.Databases.{IsKeeperDatabase}
+use Rattle.sql_keeper.specs.Rows.{contents, stored, stored_as}
+use Rattle.sql_keeper.specs.inside.Databases.{IsStoreDatabase}
 use Rattle.sql_keeper.specs.inside.Keeping.{IsKept, unmigrated}
 use Rattle.sql_keeper.specs.inside.Steps.{HasCommitted, LeavesEither}
+use Rattle.sql_keeper.proofs.Stores.{stored_current, stored_is}
 
 -- what the laws of the store say
 pub record IsLawful (s : State) : Type 0 where
@@ -38,14 +39,14 @@ pub lawful : {S : Type 0} (g : Ghosts S) (h : Held S)
     → (IsTrue (g.view h.store).is_open → g.recovers h.store (g.view h.store).committed) → IsLawful (state g h)
 lawful g h shut settled stays = record { clean = is_clean (g.view h.store).is_clean (g.view h.store).is_open shut; sure = λ o db r. settled db o r; stays = stays }
 
-tables_some : (s : State) → IsTrue s.is_open → tables_of s ≡ Some (Current (contents s.committed.trees))
+tables_some : (s : State) → IsTrue s.is_open → tables_of s ≡ Some (stored s.committed.trees)
 tables_some s o = rw o
 
 -- each fact on the tables has to hold if the connection is open
-pub when_known : (s : State) (P : Stored → Type 0) → (IsTrue s.is_open → P (Current (contents s.committed.trees))) → IfSome (tables_of s) P
+pub when_known : (s : State) (P : Stored → Type 0) → (IsTrue s.is_open → P (stored s.committed.trees)) → IfSome (tables_of s) P
 when_known s P h = go s.is_open h
   where
-    go : (b : Bool) → (b ≡ true → P (Current (contents s.committed.trees))) → IfSome (if b then Some (Current (contents s.committed.trees)) else None) P
+    go : (b : Bool) → (b ≡ true → P (stored s.committed.trees)) → IfSome (if b then Some (stored s.committed.trees) else None) P
     go true k = k refl
     go false k = tt
 
@@ -56,42 +57,45 @@ module _ {S : Type 0} (g : Ghosts S) (old new : Kept S) (law : IsLawful (state g
   abbrev is : State
   is = state g new.conn
 
-  pub becomes : (d : Delta) → IsKept g old → (HasCleanDisk is → HasCleanDisk was) → (HasCleanDisk is → HasCommitted (with_delta d) was is) → calls.BecomesBy (committed d) (known_of g old) (known_of g new)
-  becomes d kept before h = when_known is _ (λ opened.
+  -- the tables of the second schema before the call, with the delta
+  with_it : (d : Delta) → IsKept g old → old.is_old ≡ false → HasCleanDisk was → IsTrue was.is_open → Current (with_delta d (contents was.now.trees)) ≡ committed d (stored was.committed.trees)
+  with_it d kept current clean opened =
+      let store = subst (λ b. IsStoreDatabase b was.now) current (kept.database clean opened) in
+      ap (committed d) (sym (stored_current was.now store)) ∙ ap (λ (b : Database). committed d (stored b.trees)) (kept.settled clean opened)
+
+  pub becomes : (d : Delta) → IsKept g old → old.is_old ≡ false → (HasCleanDisk is → HasCleanDisk was) → (HasCleanDisk is → HasCommitted (with_delta d) was is) → calls.BecomesBy (committed d) (known_of g old) (known_of g new)
+  becomes d kept current before h = when_known is _ (λ opened.
       let clean = law.clean opened in
-      let it = h clean in
-      let same = kept.settled (before clean) it.was_open in (
-        Current (contents was.committed.trees),
+      let it = h clean in (
+        stored was.committed.trees,
         tables_some was it.was_open,
-        ap (λ (b : Database). Current (contents b.trees)) it.committed ∙ ap Current it.contents ∙ ap (λ (b : Database). Current (with_delta d (contents b.trees))) same,
+        ap (λ (b : Database). stored b.trees) it.committed ∙ stored_current is.now it.database ∙ ap Current it.contents ∙ with_it d kept current (before clean) it.was_open,
       ))
 
   pub stays_known : (HasCleanDisk is → IsTrue is.is_open → IsTrue was.is_open × (is.committed ≡ was.committed)) → calls.Stays (known_of g old) (known_of g new)
   stays_known h = when_known is _ (λ opened.
-      let it = h (law.clean opened) opened in tables_some was it.0 ∙ ap (λ (b : Database). Some (Current (contents b.trees))) (sym it.1))
+      let it = h (law.clean opened) opened in tables_some was it.0 ∙ ap (λ (b : Database). Some (stored b.trees)) (sym it.1))
 
   -- a stop leaves just the tables
   pub is_sure : IsKept g new → IsLawful (state g new.last) → calls.IsSure (known_of g new)
   is_sure kept last = when_known is _ (λ opened x.
       let it = kept.last opened in (
-        λ left. left.is ∙ ap (λ (t : Trees). Current (contents t)) (last.sure it.0 left.db left.left ∙ ap (λ (b : Database). b.trees) it.1),
+        λ left. left.is ∙ ap (λ (t : Trees). stored t) (last.sure it.0 left.db left.left ∙ ap (λ (b : Database). b.trees) it.1),
         λ e. record {
           clean = last.clean it.0;
           db = (state g new.last).committed.trees;
           left = last.stays it.0;
-          is = e ∙ ap (λ (b : Database). Current (contents b.trees)) (sym it.1);
+          is = e ∙ ap (λ (b : Database). stored b.trees) (sym it.1);
         },
       ))
 
   -- the last commit is the one that was in progress
-  pub either : (d : Delta) → IsKept g old → new.last ≡ new.conn → (HasCleanDisk is → HasCleanDisk was) → (HasCleanDisk is → LeavesEither (with_delta d) was is) → calls.LeavesEither (committed d) (known_of g old) (known_of g new)
-  either d kept last before h x given =
+  pub either : (d : Delta) → IsKept g old → old.is_old ≡ false → new.last ≡ new.conn → (HasCleanDisk is → HasCleanDisk was) → (HasCleanDisk is → LeavesEither (with_delta d) was is) → calls.LeavesEither (committed d) (known_of g old) (known_of g new)
+  either d kept current last before h x given =
       let left : MayLeave is x = subst (λ (c : Held S). MayLeave (state g c) x) last given in
       elim (h left.clean left.db left.left) [
         | inl same ↦ inl (subst (MayLeave (state g old.last)) (sym left.is) (kept.covered (before left.clean) left.db same))
-        | inr after ↦
-            let settled = kept.settled (before left.clean) after.0 in
-            inr (Current (contents was.committed.trees), tables_some was after.0, left.is ∙ ap Current after.1 ∙ ap (λ (b : Database). Current (with_delta d (contents b.trees))) settled)
+        | inr after ↦ inr (stored was.committed.trees, tables_some was after.0, left.is ∙ after.1 ∙ with_it d kept current (before left.clean) after.0)
       ]
 
   -- the last commit is the one before
@@ -100,39 +104,44 @@ module _ {S : Type 0} (g : Ghosts S) (old new : Kept S) (law : IsLawful (state g
 
 module _ {S : Type 0} (g : Ghosts S) (old new : Kept S) where
   -- out of memory, nothing more may be left
-  pub kept_spared : new.last ≡ old.last → IsKept g old → IsLawful (state g new.conn) → new.conn.in_transaction ≡ false
+  pub kept_spared : new.last ≡ old.last → new.is_old ≡ old.is_old → IsKept g old → IsLawful (state g new.conn) → new.conn.in_transaction ≡ false
       → (HasCleanDisk (state g new.conn) → HasCleanDisk (state g old.conn))
       → (HasCleanDisk (state g new.conn) → IsTrue (state g new.conn).is_open
       → IsTrue (state g old.conn).is_open × ((state g new.conn).now ≡ (state g old.conn).committed) × ((state g new.conn).committed ≡ (state g old.conn).committed))
       → (HasCleanDisk (state g new.conn) → (db : Trees) → (state g new.conn).may_leave db → (state g old.conn).may_leave db) → IsKept g new
-  kept_spared last kept law idle before same spared = record {
+  kept_spared last schema kept law idle before same spared = record {
     idle = idle;
-    database = λ clean opened. let it = same clean opened in subst IsKeeperDatabase (kept.settled (before clean) it.0 ∙ sym it.1) (kept.database (before clean) it.0);
+    database = λ clean opened. let it = same clean opened in subst (λ b. IsStoreDatabase b (state g new.conn).now) (sym schema) (subst (IsStoreDatabase old.is_old) (kept.settled (before clean) it.0 ∙ sym it.1) (kept.database (before clean) it.0));
     settled = λ clean opened. let it = same clean opened in it.1 ∙ sym it.2;
     last = λ opened.
         let it = same (law.clean opened) opened in
         let was = kept.last it.0 in
         subst (λ (c : Held S). IsTrue (state g c).is_open × ((state g c).committed ≡ (state g new.conn).committed)) (sym last) (was.0, was.1 ∙ sym it.2);
-    covered = λ clean db left. subst (λ (c : Held S). MayLeave (state g c) (Current (contents db))) (sym last) (kept.covered (before clean) db (spared clean db left));
+    covered = λ clean db left. subst (λ (c : Held S). MayLeave (state g c) (stored db)) (sym last) (kept.covered (before clean) db (spared clean db left));
   }
 
   -- after a commit the connection is as the last commit left it
-  pub kept_written : {change : Contents → Contents} → IsLawful (state g new.conn) → new.last ≡ new.conn → new.conn.in_transaction ≡ false
+  pub kept_written : {change : Contents → Contents} → new.is_old ≡ false → IsLawful (state g new.conn) → new.last ≡ new.conn → new.conn.in_transaction ≡ false
       → (HasCleanDisk (state g new.conn) → HasCommitted change (state g old.conn) (state g new.conn)) → IsKept g new
-  kept_written law last idle h = record {
+  kept_written current law last idle h = record {
     idle = idle;
-    database = λ clean opened. (h clean).database;
+    database = λ clean opened. subst (λ b. IsStoreDatabase b (state g new.conn).now) (sym current) (h clean).database;
     settled = λ clean opened. sym (h clean).committed;
     last = λ opened. subst (λ (c : Held S). IsTrue (state g c).is_open × ((state g c).committed ≡ (state g new.conn).committed)) (sym last) (opened, refl);
-    covered = λ clean db left. subst (λ (c : Held S). MayLeave (state g c) (Current (contents db))) (sym last) (record { clean = clean; db = db; left = left; is = refl });
+    covered = λ clean db left. subst (λ (c : Held S). MayLeave (state g c) (stored db)) (sym last) (record { clean = clean; db = db; left = left; is = refl });
   }
 
--- tables of the first schema are never kept
-none_old : (s : State) (P : Stored → Type 0) → IfSome (tables_of s) (λ t. IsTrue (is_old t) → P t)
-none_old s P = when_known s _ (λ opened old. absurd (let e : false ≡ true = old in cc))
+-- tables of the second schema aren't refused as old ones
+pub refuses_none : {S T : Type 0} (g : Ghosts S) (old : Kept S) (now : calls.Known) (r : Result T KeepFault) → IsKept g old → IsLawful (state g old.conn) → old.is_old ≡ false → calls.RefusesOld (known_of g old) now r
+refuses_none g old now r kept law current = when_known (state g old.conn) _ (λ opened old_ones.
+    let clean = law.clean opened in
+    let store = subst (λ b. IsStoreDatabase b (state g old.conn).now) current (kept.database clean opened) in
+    let is = ap (λ (b : Database). stored b.trees) (sym (kept.settled clean opened)) ∙ stored_current (state g old.conn).now store in
+    absurd (let e : IsTrue (is_old (Current (contents (state g old.conn).now.trees))) = subst (λ s. IsTrue (is_old s)) is old_ones in cc))
 
-pub refuses_none : {S T : Type 0} (g : Ghosts S) (old : Kept S) (now : calls.Known) (r : Result T KeepFault) → calls.RefusesOld (known_of g old) now r
-refuses_none g old now r = none_old (state g old.conn) (λ _. (r ≡ Err keep.Fault) × calls.Stays (known_of g old) now)
+-- a call that did nothing
+pub stays_same : {S : Type 0} (g : Ghosts S) (k : Kept S) (now : calls.Known) → now.tables ≡ (known_of g k).tables → calls.Stays (known_of g k) now
+stays_same g k now is = subst (λ o. IfSome o (λ s. tables_of (state g k.conn) ≡ Some s)) (sym is) (when_known (state g k.conn) _ (λ opened. tables_some (state g k.conn) opened))
 
 -- ---- after a call that only read
 
@@ -141,12 +150,12 @@ pub record Reads (old new : State) : Type 0 where
   pub same : HasCleanDisk new → IsTrue new.is_open → IsTrue old.is_open × (new.now ≡ old.committed) × (new.committed ≡ old.committed)
   pub survives : Survives old new (λ _. ⊥)
 
-module _ {S : Type 0} (g : Ghosts S) (old new : Kept S) (last : new.last ≡ old.last) (kept : IsKept g old) (law : IsLawful (state g new.conn)) (reads : Reads (state g old.conn) (state g new.conn)) where
+module _ {S : Type 0} (g : Ghosts S) (old new : Kept S) (last : new.last ≡ old.last) (schema : new.is_old ≡ old.is_old) (kept : IsKept g old) (law : IsLawful (state g new.conn)) (reads : Reads (state g old.conn) (state g new.conn)) where
   before : HasCleanDisk (state g new.conn) → HasCleanDisk (state g old.conn)
   before clean = let s = reads.survives.clean in omega arith
 
   pub kept_still : new.conn.in_transaction ≡ false → IsKept g new
-  kept_still idle = kept_spared g old new last kept law idle before reads.same
+  kept_still idle = kept_spared g old new last schema kept law idle before reads.same
       (λ clean db left. elim (reads.survives.crash clean db left) [ inl was ↦ was | inr none ↦ absurd none ])
 
   pub knows_same : calls.Stays (known_of g old) (known_of g new)
@@ -161,21 +170,21 @@ module _ {S : Type 0} (g : Ghosts S) (old new : Kept S) (last : new.last ≡ old
   pub reads_err : {T : Type 0} (e : KeepFault) → calls.ReadsOnly {T = T} (known_of g old) (known_of g new) (Err e)
   reads_err e = record { same = knows_same; no_more = no_more; sure = tt; unsure = same_last g old new law last }
 
+  -- the tables that the call read are those of the last commit
+  read_is : HasCleanDisk (state g new.conn) → IsTrue (state g new.conn).is_open → stored_as old.is_old (state g old.conn).now.trees ≡ stored (state g new.conn).committed.trees
+  read_is clean opened =
+      let it = reads.same clean opened in
+      sym (stored_is old.is_old (state g old.conn).now (kept.database (before clean) it.0)) ∙ ap (λ (d : Database). stored d.trees) (kept.settled (before clean) it.0 ∙ sym it.2)
+
+  pub shows : (P : Stored → Type 0) → (HasCleanDisk (state g new.conn) → P (stored_as old.is_old (state g old.conn).now.trees)) → IfSome (tables_of (state g new.conn)) P
+  shows P h = when_known (state g new.conn) _ (λ opened. let clean = law.clean opened in subst P (read_is clean opened) (h clean))
+
   -- the tables are those before, and are as they were read
-  pub knows_that : (P : Stored → Type 0) → (HasCleanDisk (state g new.conn) → P (Current (contents (state g old.conn).now.trees))) → IfSome (tables_of (state g new.conn)) (λ s. (tables_of (state g old.conn) ≡ Some s) × P s)
+  pub knows_that : (P : Stored → Type 0) → (HasCleanDisk (state g new.conn) → P (stored_as old.is_old (state g old.conn).now.trees)) → IfSome (tables_of (state g new.conn)) (λ s. (tables_of (state g old.conn) ≡ Some s) × P s)
   knows_that P h = when_known (state g new.conn) _ (λ opened.
       let clean = law.clean opened in
       let it = reads.same clean opened in
-      let same : (state g old.conn).committed ≡ (state g new.conn).committed = sym it.2 in (
-        tables_some (state g old.conn) it.0 ∙ ap (λ (d : Database). Some (Current (contents d.trees))) same,
-        subst (λ (d : Database). P (Current (contents d.trees))) (kept.settled (before clean) it.0 ∙ same) (h clean),
-      ))
-
-  pub shows : (P : Stored → Type 0) → (HasCleanDisk (state g new.conn) → P (Current (contents (state g old.conn).now.trees))) → IfSome (tables_of (state g new.conn)) P
-  shows P h = when_known (state g new.conn) _ (λ opened.
-      let clean = law.clean opened in
-      let it = reads.same clean opened in
-      subst (λ (d : Database). P (Current (contents d.trees))) (kept.settled (before clean) it.0 ∙ sym it.2) (h clean))
+      (tables_some (state g old.conn) it.0 ∙ ap (λ (d : Database). Some (stored d.trees)) (sym it.2), subst P (read_is clean opened) (h clean)))
 
   pub migrates_err : (e : KeepFault) → calls.Migrates (known_of g old) (known_of g new) (Err (unmigrated e))
   migrates_err keep.Fault = inl knows_same

@@ -12,6 +12,7 @@ pub mod MetaRows
 pub mod CachePut
 pub mod Numbering
 pub mod Reading
+pub mod Stores
 pub mod LogRead
 pub mod Typed
 pub mod Knowing

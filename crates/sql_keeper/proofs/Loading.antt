@@ -1,5 +1,5 @@
 -- What the queries of a load show is what the contents are.
-use Rattle.std.proofs.Common.{◌≡◌, ◌⊎◌, inl, inr, ℕ, ℤ, List, [], ◌∷◌, map, codes, false, refl, sym, ap, subst, ◌∙◌, arith}
+use Rattle.std.proofs.Common.{◌≡◌, ◌⊎◌, inl, inr, ℕ, ℤ, Bool, true, List, [], ◌∷◌, map, codes, false, refl, sym, ap, subst, ◌∙◌, arith}
 use Rattle.std.specs.Cmp.{int_cmp_total}
 use Rattle.std.specs.Cmp.Lexicographic.{nat_list_cmp_total}
 use Rattle.std.specs.FinMap.{entries, int_cmp-IsAntisymmetric, keys}
@@ -38,8 +38,8 @@ use Rattle.keeper_core.specs.declared.tables.CacheValue.{CacheValue}
 use Rattle.keeper_core.specs.Contents.{Bytes, cache_row, input_row, key_cmp_total}
 use Rattle.keeper_core.specs.inside.KeyTies.{key_cmp_antisymmetric}
 use Rattle.sql_keeper.specs.Rows.{contents, job_in, key_in, literal_in, name_in, value_in}
-use Rattle.sql_keeper.specs.inside.Schemas.{cache_select, input_select, jobs_select, meta_select, keeper_schema, the_cache, the_inputs}
-use Rattle.sql_keeper.specs.inside.Databases.{IsKeeperDatabase, IsKeyed}
+use Rattle.sql_keeper.specs.inside.Schemas.{cache_select, input_select, jobs_select, meta_select, keeper_schema, schema_of, the_cache, the_inputs, the_meta}
+use Rattle.sql_keeper.specs.inside.Databases.{IsKeeperDatabase, IsKeyed, IsStoreDatabase}
 use Rattle.sql_keeper.specs.inside.ShownRows.{input_shown, job_shown, meta_shown, result_shown}
 use Rattle.sql_keeper.specs.inside.Steps.{Says}
 use Rattle.sql_keeper.proofs.CacheMap.{agree_keys, cached_is, sharing as sharing_keys}
@@ -93,13 +93,24 @@ jobs_unlisted : reads_listing keeper_schema jobs_select ≡ false
 unfolding understood everything
 jobs_unlisted = refl
 
-pub meta_plain : IsPlain (understood keeper_schema meta_select)
+meta_known : (is_old : Bool) → command_of (understood (schema_of is_old) meta_select) ≡ Select (plain_program (simple 0 [] (col 1 0 ∷ col 1 2 ∷ col 1 3 ∷ []))) (codes "id" ∷ codes "format" ∷ codes "next_job" ∷ [])
 unfolding understood everything
-meta_plain = (refl, refl)
+meta_known true = refl
+meta_known false = meta_select_is
 
-meta_unlisted : reads_listing keeper_schema meta_select ≡ false
+pub meta_plain : (is_old : Bool) → IsPlain (understood (schema_of is_old) meta_select)
 unfolding understood everything
-meta_unlisted = refl
+meta_plain true = (refl, refl)
+meta_plain false = (refl, refl)
+
+meta_unlisted : (is_old : Bool) → reads_listing (schema_of is_old) meta_select ≡ false
+unfolding understood everything
+meta_unlisted true = refl
+meta_unlisted false = refl
+
+meta_listed : (is_old : Bool) → Has (schema_of is_old).tables the_meta
+meta_listed true = inl refl
+meta_listed false = inl refl
 
 -- ---- lists of at most one item
 
@@ -199,7 +210,14 @@ module _ (old new : State) (database : IsKeeperDatabase old.now) where
   pub jobs_loaded : (items : List ℤ) → Says job_shown jobs_select old new items → items ≡ keys (contents db).logs
   jobs_loaded items says = says.2 ∙ ap (map job_shown) (jobs_found says.0 says.1) ∙ map-map job_shown (λ (e : ℤ × Bytes). (job_out e).1) (entries (contents db).logs)
 
-  -- ---- the rows of meta
+-- ---- the rows of meta, under either schema
+
+module _ (is_old : Bool) (old new : State) (database : IsStoreDatabase is_old old.now) where
+  abbrev metas : List Row
+  metas = old.now.trees 0
+
+  sound_store : IsDatabase (record { schema = schema_of is_old; trees = old.now.trees })
+  sound_store = subst (λ s. IsDatabase (record { schema = s; trees = old.now.trees })) database.schema database.sound
 
   abbrev meta_project : List Term
   meta_project = col 1 0 ∷ col 1 2 ∷ col 1 3 ∷ []
@@ -210,16 +228,16 @@ module _ (old new : State) (database : IsKeeperDatabase old.now) where
   abbrev meta_output : Row → Output
   meta_output r = ([], meta_out r)
 
-  meta_found : (rows : List Row) → Shown meta_select [] old new rows → rows ≡ map meta_out (db 0)
+  meta_found : (rows : List Row) → Shown meta_select [] old new rows → rows ≡ map meta_out metas
   meta_found rows h =
-      let answers : Answers old.now (plain_program (simple 0 [] meta_project)) [] rows = reads_as meta_select [] old new keeper_schema database.schema _ meta_select_is meta_plain meta_unlisted rows h in
-      let a : IsAnswer (simple 0 [] meta_project) (overlay db []) [] rows = answers.answer Null in
-      let staged : a.staged ≡ map (λ r. [] ∷ r ∷ []) (db 0) = a.grouped ∙ one_each (λ (r : Row). [] ∷ r ∷ []) (db 0) in
-      let kept : a.kept ≡ map meta_output (db 0) = a.distinct ∙ ap (map (output (simple 0 [] meta_project))) staged ∙ map-map (output (simple 0 [] meta_project)) (λ (r : Row). [] ∷ r ∷ []) (db 0) in
-      let few = at_most_one (db 0) database.meta (is_one db sound database.meta) in
-      let ordered = few_permuted (map meta_output (db 0)) a.ordered (subst (λ k. IsPermutation k a.ordered) kept a.same)
+      let answers : Answers old.now (plain_program (simple 0 [] meta_project)) [] rows = reads_as meta_select [] old new (schema_of is_old) database.schema _ (meta_known is_old) (meta_plain is_old) (meta_unlisted is_old) rows h in
+      let a : IsAnswer (simple 0 [] meta_project) (overlay old.now.trees []) [] rows = answers.answer Null in
+      let staged : a.staged ≡ map (λ r. [] ∷ r ∷ []) metas = a.grouped ∙ one_each (λ (r : Row). [] ∷ r ∷ []) metas in
+      let kept : a.kept ≡ map meta_output metas = a.distinct ∙ ap (map (output (simple 0 [] meta_project))) staged ∙ map-map (output (simple 0 [] meta_project)) (λ (r : Row). [] ∷ r ∷ []) metas in
+      let few = at_most_one metas database.meta (is_one (schema_of is_old) (meta_listed is_old) old.now.trees sound_store database.meta) in
+      let ordered = few_permuted (map meta_output metas) a.ordered (subst (λ k. IsPermutation k a.ordered) kept a.same)
       (elim few [ inl none ↦ inl (ap (map meta_output) none) | inr one ↦ inr (meta_output one.0, ap (map meta_output) one.1) ]) in
-      a.shown ∙ ap (map (λ (p : Output). p.1)) ordered ∙ map-map (λ (p : Output). p.1) meta_output (db 0)
+      a.shown ∙ ap (map (λ (p : Output). p.1)) ordered ∙ map-map (λ (p : Output). p.1) meta_output metas
 
-  pub meta_loaded : (items : List MetaRow) → Says meta_shown meta_select old new items → items ≡ (contents db).meta
-  meta_loaded items says = says.2 ∙ ap (map meta_shown) (meta_found says.0 says.1) ∙ map-map meta_shown meta_out (db 0)
+  pub meta_loaded : (items : List MetaRow) → Says meta_shown meta_select old new items → items ≡ (contents old.now.trees).meta
+  meta_loaded items says = says.2 ∙ ap (map meta_shown) (meta_found says.0 says.1) ∙ map-map meta_shown meta_out metas

@@ -1,5 +1,5 @@
 -- The log of a job, as the text that asks for it shows it.
-use Rattle.std.proofs.Common.{◌≡◌, inl, ℤ, true, false, List, [], ◌∷◌, map, Option, Some, None, Equal, refl, sym, ap, subst, ◌∙◌, codes}
+use Rattle.std.proofs.Common.{◌≡◌, inl, ℤ, Bool, true, false, List, [], ◌∷◌, map, Option, Some, None, Equal, refl, sym, ap, subst, ◌∙◌, codes}
 use Rattle.std.proofs.lemmas.Bool.{and_from, and_parts}
 use Rattle.std.specs.List.{list_all}
 use Rattle.std.specs.Ordering.{int_cmp}
@@ -13,7 +13,7 @@ use Rattle.sqlite.specs.Command.TheVariants.{Select}
 use Rattle.sqlite.specs.Effect.{Answers}
 use Rattle.sqlite.specs.Listing.{reads_listing, understood}
 use Rattle.sqlite.specs.State.{Shown, State}
-use Rattle.sqlite.proofs.Callers.{IsPlain, reads_as}
+use Rattle.sqlite.proofs.Callers.{IsPlain, command_of, reads_as}
 use Rattle.sqlite_tied.specs.Compute.{everything}
 use Rattle.sqlite_value.specs.declared.keys.Collation.TheVariants.{Binary}
 use Rattle.sqlite_value.proofs.OrderLemmas.{value_cmp-Int, value_cmp_total}
@@ -21,8 +21,8 @@ use Rattle.sqlite_rules.specs.Lists.{Has}
 use Rattle.sqlite_rules.proofs.ListLemmas.{all_has}
 use Rattle.sqlite_rules.proofs.PlaceLemmas.{tied_same}
 use Rattle.sqlite_rules.proofs.TableLemmas.{int_is}
-use Rattle.sql_keeper.specs.inside.Schemas.{keeper_schema, log_select}
-use Rattle.sql_keeper.specs.inside.Databases.{IsKeyed, IsKeeperDatabase}
+use Rattle.sql_keeper.specs.inside.Schemas.{log_select, schema_of}
+use Rattle.sql_keeper.specs.inside.Databases.{IsKeyed, IsStoreDatabase}
 use Rattle.keeper_core.specs.Contents.{Bytes}
 use Rattle.sql_keeper.specs.Rows.{job_in, literal_in, contents}
 use Rattle.sql_keeper.specs.inside.ShownRows.{output_of}
@@ -80,18 +80,26 @@ module _ (db : Trees) (keyed : IsKeyed (db 5)) (job : ℤ) where
           let same : f.0 ≡ s.0 = once f.0 s.0 f.1 s.1 (sym f.2 ∙ is_named s.0 s.1 s.2) in
           ap (λ (y : Row). Some (bytes (column y 0))) s.3 ∙ ap Some (sym (f.3 ∙ ap literal_in same))
 
-pub log_select_plain : IsPlain (understood keeper_schema log_select)
+log_select_known : (is_old : Bool) → command_of (understood (schema_of is_old) log_select) ≡ Select (plain_program (simple 5 asked project)) (codes "output" ∷ [])
 unfolding understood everything
-log_select_plain = (refl, refl)
+log_select_known true = refl
+log_select_known false = log_select_is
 
-log_select_unlisted : reads_listing keeper_schema log_select ≡ false
+pub log_select_plain : (is_old : Bool) → IsPlain (understood (schema_of is_old) log_select)
 unfolding understood everything
-log_select_unlisted = refl
+log_select_plain true = (refl, refl)
+log_select_plain false = (refl, refl)
 
-pub log_shown_is : (old new : State) (job : ℤ) (rows : List Row) → IsKeeperDatabase old.now → Shown log_select (Int job ∷ []) old new rows → output_of rows ≡ get (contents old.now.trees).logs job
-log_shown_is old new job rows database h =
+log_select_unlisted : (is_old : Bool) → reads_listing (schema_of is_old) log_select ≡ false
+unfolding understood everything
+log_select_unlisted true = refl
+log_select_unlisted false = refl
+
+pub log_shown_is : (is_old : Bool) (old new : State) (job : ℤ) (rows : List Row) → IsStoreDatabase is_old old.now → Shown log_select (Int job ∷ []) old new rows → output_of rows ≡ get (contents old.now.trees).logs job
+log_shown_is is_old old new job rows database h =
     let db = old.now.trees in
     let command = Select (plain_program (simple 5 asked project)) (codes "output" ∷ []) in
-    let answers : Answers old.now (plain_program (simple 5 asked project)) (Int job ∷ []) rows = reads_as log_select (Int job ∷ []) old new keeper_schema database.schema command log_select_is log_select_plain log_select_unlisted rows h in
+    let answers : Answers old.now (plain_program (simple 5 asked project)) (Int job ∷ []) rows =
+    reads_as log_select (Int job ∷ []) old new (schema_of is_old) database.schema command (log_select_known is_old) (log_select_plain is_old) (log_select_unlisted is_old) rows h in
     log_shown db database.logs job old.now.schema rows (shows 5 asked project (Int job ∷ []) old.now rows refl answers)
     ∙ sym (get-from_entries int_cmp_total (map (λ r. (job_in r, literal_in r)) (db 5)) job)

@@ -8,6 +8,7 @@ use Rattle.std.specs.Cmp.{tied_itself}
 use Rattle.sqlite.specs.Order.{Row, value_cmp, column}
 use Rattle.sqlite.specs.declared.types.Value.{Value}
 use Rattle.sqlite.specs.declared.types.Value.TheVariants.{Null, Int, Real, Text, Blob}
+use Rattle.sqlite.specs.Schema.{Schema}
 use Rattle.sqlite.specs.Tree.{Trees, rowid}
 use Rattle.sqlite.specs.Term.{Term, lit, col, eval_all, holds}
 use Rattle.sqlite.specs.Query.{IsAnswer, output, page, Output}
@@ -50,11 +51,11 @@ checked_one n h = go (value_cmp (Int n) (Int (pos 1))) h
     go Equal h = refl
     go Greater h = absurd (cc)
 
-module _ (db : Trees) (sound : IsDatabase (record { schema = keeper_schema; trees = db })) (keyed : IsKeyed (db 0)) where
+module _ (schema : Schema) (listed : Has schema.tables the_meta) (db : Trees) (sound : IsDatabase (record { schema = schema; trees = db })) (keyed : IsKeyed (db 0)) where
   pub is_one : (r : Row) → Has (db 0) r → value_cmp (rowid r) (Int (pos 1)) ≡ Equal
   is_one r h =
       let n = int_is (rowid r) (all_has _ (db 0) r keyed.ints h) in
-      let check = keeps_at Check keeper_schema db the_meta r (sound.obeys.rules Check) (inl refl) h in
+      let check = keeps_at Check schema db the_meta r (sound.obeys.rules Check) listed h in
       let one = not-true _ (and_parts _ _ check).0 in
       subst (λ v. value_cmp v (Int (pos 1)) ≡ Equal) (sym n) (checked_one _ (subst (λ v. is_false (binary (Rattle.sqlite_sql.specs.declared.ops.BinaryOp.TheVariants.Compare Rattle.sqlite_sql.specs.declared.ops.CompareOp.TheVariants.Eq Binary) v (Int (pos 1))) ≡ false) n one))
 
@@ -108,7 +109,7 @@ module _ (db : Trees) (sound : IsDatabase (record { schema = keeper_schema; tree
       let n = int_is (rowid r) (all_has _ (db 0) r keyed.ints here) in
       let f = format_typed r (and_parts _ _ (keeps_at Datatype keeper_schema db the_meta r (sound.obeys.rules Datatype) (inl refl) here)).0 (keeps_at NotNull keeper_schema db the_meta r (sound.obeys.rules NotNull) (inl refl) here) in
       let is_null : Rattle.sqlite_sql.specs.Ops.is_null (rowid r) ≡ false = rw n in
-      let passes : list_all (holds ((Int next ∷ []) ∷ r ∷ [])) asked ≡ true = and_from _ _ (equal_from Binary (rowid r) (Int (pos 1)) is_null refl (is_one db sound keyed r here)) refl in
+      let passes : list_all (holds ((Int next ∷ []) ∷ r ∷ [])) asked ≡ true = and_from _ _ (equal_from Binary (rowid r) (Int (pos 1)) is_null refl (is_one keeper_schema (inl refl) db sound keyed r here)) refl in
       let a : IsAnswer (simple 0 asked shown) (overlay db []) (Int next ∷ []) found = is.answer Null in
       let staged : a.staged ≡ ((Int next ∷ []) ∷ r ∷ []) ∷ [] = a.grouped ∙ rw (one, passes) in
       let o : Output = ([], rowid r ∷ rowid r ∷ Null ∷ column r 2 ∷ Int next ∷ []) in
@@ -127,13 +128,13 @@ module _ (db : Trees) (sound : IsDatabase (record { schema = keeper_schema; tree
       ∙ ap (λ x. x ∷ []) cast
 
   pub numbered : map meta_in after ≡ map (with_next next) (map meta_in (db 0))
-  numbered = elim (at_most_one (db 0) keyed (is_one db sound keyed)) [
+  numbered = elim (at_most_one (db 0) keyed (is_one keeper_schema (inl refl) db sound keyed)) [
     | inl empty ↦ ap (map meta_in) (none empty) ∙ sym (ap (λ rs. map (with_next next) (map meta_in rs)) empty)
     | inr r ↦ ap (map meta_in) (some r.0 r.1) ∙ sym (ap (λ rs. map (with_next next) (map meta_in rs)) r.1)
   ]
 
   pub numbered_keyed : IsKeyed after
-  numbered_keyed = elim (at_most_one (db 0) keyed (is_one db sound keyed)) [
+  numbered_keyed = elim (at_most_one (db 0) keyed (is_one keeper_schema (inl refl) db sound keyed)) [
     | inl empty ↦ subst IsKeyed (sym (none empty)) (record { rises = tt; ints = tt })
     | inr r ↦ subst IsKeyed (sym (some r.0 r.1)) (record { rises = (tt, tt); ints = (refl, tt) })
   ]

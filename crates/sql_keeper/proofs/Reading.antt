@@ -1,33 +1,29 @@
 -- What a query inside a transaction leaves of the connection.
-use Rattle.std.proofs.Common.{◌≡◌, ◌⊎◌, inl, inr, ℕ, List, Option, None, Some, Result, Ok, Err, IfOk, OnErr, OnOk, sym, ap, subst, ◌∙◌}
+use Rattle.std.proofs.Common.{◌≡◌, ◌⊎◌, inl, inr, ℕ, Bool, List, Option, None, Some, Result, Ok, Err, IfOk, OnErr, OnOk, sym, ap, subst, ◌∙◌}
 use Rattle.sqlite.specs.Order.{Row}
-use Rattle.sqlite.specs.Effect.{Database}
 use Rattle.sqlite.specs.Listing.{understood}
 use Rattle.sqlite.specs.State.{FailsToQuery, FailsToShow, IsNotRun, IsTooLate, IsUnchanged, Shown, State}
 use Rattle.sqlite.specs.declared.error.Error.{Error}
 use Rattle.sqlite_resolve.specs.declared.compiled.Compiled.{Compiled}
 use Rattle.sqlite_schema.specs.declared.command.Returning.{Returning}
 use Rattle.sqlite.proofs.Callers.{IsPlain}
-use Rattle.sql_keeper.specs.Rows.{contents}
-use Rattle.sql_keeper.specs.inside.Schemas.{keeper_schema}
-use Rattle.sql_keeper.specs.inside.Databases.{IsKeeperDatabase}
-use Rattle.sql_keeper.specs.inside.Steps.{IsReady, IsUndone, Makes}
+use Rattle.sql_keeper.specs.inside.Schemas.{schema_of}
+use Rattle.sql_keeper.specs.inside.Databases.{IsStoreDatabase}
+use Rattle.sql_keeper.specs.inside.Steps.{IsReadyFor, IsUndone, Stays}
 
 -- a query that shows rows changes nothing
-pub shown_same : (old new : State) (sql : List ℕ) (params : Row) (rows : List Row) → IsKeeperDatabase old.now → IsPlain (understood keeper_schema sql) → Shown sql params old new rows → IsUnchanged old new
+pub shown_same : (is_old : Bool) (old new : State) (sql : List ℕ) (params : Row) (rows : List Row) → IsStoreDatabase is_old old.now → IsPlain (understood (schema_of is_old) sql) → Shown sql params old new rows → IsUnchanged old new
 unfolding Shown
-shown_same old new sql params rows database plain h =
+shown_same is_old old new sql params rows database plain h =
     let known = sym h.1.is ∙ ap (λ s. understood s sql) database.schema in
     let bare = subst IsPlain (sym known) plain in
     let it = rw bare.0 at h.2 in
     it.3
 
-pub stays : (old new : State) → IsReady old → IsUnchanged old new → Makes (λ t. t) old new
-stays old new ready same = record {
-  is_open = same.0.is_open;
-  database = subst IsKeeperDatabase (sym same.0.now_is) ready.database;
-  contents = ap (λ (d : Database). contents d.trees) same.0.now_is;
-  inside = same.0.mode ∙ ready.inside;
+pub stays : (is_old : Bool) (old new : State) → IsReadyFor is_old old → IsUnchanged old new → Stays is_old old new
+stays is_old old new ready same = record {
+  ready = record { is_open = same.0.is_open; database = subst (IsStoreDatabase is_old) (sym same.0.now_is) ready.database; inside = same.0.mode ∙ ready.inside };
+  same = same.0.now_is;
   kept = same.0.committed_is;
 }
 
@@ -51,6 +47,10 @@ ok_same (Err x) a b e h = tt
 pub ok_then : {T : Type 0} (r : Result T Error) (P Q : T → Type 0) → ((x : T) → P x → Q x) → IfOk r P → IfOk r Q
 ok_then (Ok x) P Q f h = f x h
 ok_then (Err x) P Q f h = tt
+
+pub on_ok_then : {T : Type 0} (r : Result T Error) (P Q : Type 0) → (P → Q) → OnOk r P → OnOk r Q
+on_ok_then (Ok x) P Q f h = f h
+on_ok_then (Err x) P Q f h = tt
 
 -- a fact, whatever was answered
 pub on_ok : {T : Type 0} (r : Result T Error) (P : Type 0) → P → OnOk r P

@@ -2,7 +2,7 @@
 ghost use Rattle.std.specs.Prelude.{◌≡◌, IfOk, false};
 ghost use Rattle.sql_keeper.specs.inside.Calls.{AdoptedFrom, IsKeyedIn, IsOpened, ShowsLastOf};
 
-use crate::known::{is_blank, is_kept};
+use crate::known::{is_blank, is_current, is_first};
 use crate::making::make_tables;
 use sqlite::{Alter, Connection, Error, ErrorCode};
 use std::alloc::Global;
@@ -24,21 +24,25 @@ fn reopened<S: Alter + Drop>(alloc: Global, conn: Connection<S>) -> Result<Conne
     }
 }
 
-/// A connection over the same store, which has the tables: they are made if it has none.
+/// A connection over the same store, which has the tables: they are made if it has none. Whether
+/// they are of the first schema is answered too.
 pub(crate) fn adopted<S: Alter + Drop>(
     alloc: Global,
     conn: Connection<S>,
-) -> Result<Connection<S>, Error>
-    ensures idle { IfOk result (λ c. c.in_transaction ≡ false) }
-    ensures adopted { IfOk result (AdoptedFrom S.Store conn) }
+) -> Result<(Connection<S>, bool), Error>
+    ensures idle { IfOk result (λ a. a.0.in_transaction ≡ false) }
+    ensures adopted { IfOk result (λ a. AdoptedFrom S.Store conn a.0 a.1) }
 {
     let mut conn = reopened(alloc, conn)?;
     if is_blank(conn.schema()) {
         make_tables(&mut conn)?;
-        return Ok(conn);
+        return Ok((conn, false));
     }
-    if !is_kept(conn.schema()) {
-        return Err(Error::SqliteFailure(ErrorCode::NotADatabase));
+    if is_current(conn.schema()) {
+        return Ok((conn, false));
     }
-    Ok(conn)
+    if is_first(conn.schema()) {
+        return Ok((conn, true));
+    }
+    Err(Error::SqliteFailure(ErrorCode::NotADatabase))
 }

@@ -1,11 +1,12 @@
 //! A delta as one transaction.
 ghost use Rattle.std.specs.Prelude.{◌≡◌, IfSome, false};
-ghost use Rattle.keeper_core.specs.Commits.{Fits, IsCommittable, flag};
+ghost use Rattle.keeper_core.specs.Commits.{Fits, IsCommittable, flag, with_delta};
 ghost use Rattle.sql_keeper.specs.inside.Steps.{with_put_in, with_log_in, with_input_in};
 ghost use Rattle.sql_keeper.specs.inside.Steps.{with_void_in};
-ghost use Rattle.sql_keeper.specs.inside.Calls.{CommitsNothing, FailsToCommit, HasDatabase};
-ghost use Rattle.sql_keeper.specs.inside.Calls.{IsReadyIn, IsSettled, LeavesEitherIn};
-ghost use Rattle.sql_keeper.specs.inside.Calls.{OnceCommitted, ShowsCommitted, SparesIn, Steps};
+ghost use Rattle.sql_keeper.specs.inside.Calls.{CommitsNothing, FailsToCommit, HasDatabase, HasStore};
+ghost use Rattle.sql_keeper.specs.inside.Calls.{IsInside, IsReadyIn, IsSettled, KeepsCommitIn};
+ghost use Rattle.sql_keeper.specs.inside.Calls.{LeavesEitherIn, MakesIn, MakesShown, OnceCommitted};
+ghost use Rattle.sql_keeper.specs.inside.Calls.{ShowsCommitted, SparesIn, Steps};
 ghost use Rattle.sql_keeper.specs.inside.Calls.{Undoes, WasClean, WasOpen};
 
 use crate::statements::{Texts, add_log, number, put_input, put_result, touch, void_key};
@@ -104,8 +105,41 @@ fn log_if<S: Alter>(
     Ok(())
 }
 
+/// The changes of a delta, inside a transaction.
+fn make_changes<S: Alter>(tx: &mut Transaction<'_, S>, delta: &Delta) -> Result<(), Error>
+    requires inside { IsInside S.Store tx.old.conn.now }
+    requires database { HasDatabase S.Store tx.old.conn.now }
+    requires fits { IsCommittable delta.now }
+    ensures same_reference { tx.new.conn.ghost_name ≡ tx.old.conn.ghost_name }
+    ensures made { MakesIn S.Store (with_delta delta.now)
+        tx.old.conn.now tx.new.conn.now result }
+    ensures kept { KeepsCommitIn S.Store tx.old.conn.now tx.new.conn.now }
+    ensures survives { CommitsNothing S.Store tx.old.conn.now tx.new.conn.now }
+{
+    touch(tx, false)?;
+    number(tx, delta.next as i64)?;
+    put_if(tx, &delta.input)?;
+    void_if(tx, &delta.void)?;
+    file_if(tx, &delta.put)?;
+    log_if(tx, &delta.log)
+}
+
+/// The same, with what the trees show after it.
+fn make_delta<S: Alter>(tx: &mut Transaction<'_, S>, delta: &Delta) -> Result<(), Error>
+    requires inside { IsInside S.Store tx.old.conn.now }
+    requires database { HasDatabase S.Store tx.old.conn.now }
+    requires fits { IsCommittable delta.now }
+    ensures same_reference { tx.new.conn.ghost_name ≡ tx.old.conn.ghost_name }
+    ensures made { MakesShown S.Store (with_delta delta.now)
+        tx.old.conn.now tx.new.conn.now result }
+    ensures kept { KeepsCommitIn S.Store tx.old.conn.now tx.new.conn.now }
+    ensures survives { CommitsNothing S.Store tx.old.conn.now tx.new.conn.now }
+{
+    make_changes(tx, delta)
+}
+
 /// The whole delta as one transaction, or nothing of it.
-pub(crate) fn commit_delta<S: Alter>(conn: &mut Connection<S>, delta: &Delta) -> Result<(), Error>
+fn commit_delta<S: Alter>(conn: &mut Connection<S>, delta: &Delta) -> Result<(), Error>
     requires idle { conn.old.in_transaction ≡ false }
     requires database { HasDatabase S.Store conn.old }
     requires fits { IsCommittable delta.now }
@@ -116,12 +150,7 @@ pub(crate) fn commit_delta<S: Alter>(conn: &mut Connection<S>, delta: &Delta) ->
     ensures clean { WasClean S.Store conn.old conn.new }
 {
     let mut tx = conn.transaction();
-    touch(&mut tx)?;
-    number(&mut tx, delta.next as i64)?;
-    put_if(&mut tx, &delta.input)?;
-    void_if(&mut tx, &delta.void)?;
-    file_if(&mut tx, &delta.put)?;
-    log_if(&mut tx, &delta.log)?;
+    make_delta(&mut tx, delta)?;
     tx.commit()
 }
 
@@ -141,7 +170,7 @@ pub(crate) fn commit<S: Alter>(conn: &mut Connection<S>, delta: &Delta) -> Resul
     let done = commit_delta(conn, delta);
     match done {
         Err(Error::SqliteFailure(ErrorCode::OutOfMemory)) => {
-            if is_live(conn) {
+            if is_live(conn, false) {
                 Err(Error::SqliteFailure(ErrorCode::OutOfMemory))
             } else {
                 Err(Error::SqliteFailure(ErrorCode::Closed))
@@ -152,16 +181,16 @@ pub(crate) fn commit<S: Alter>(conn: &mut Connection<S>, delta: &Delta) -> Resul
 }
 
 /// Whether the connection still runs a text.
-pub(crate) fn is_live<S: Alter>(conn: &mut Connection<S>) -> bool
+pub(crate) fn is_live<S: Alter>(conn: &mut Connection<S>, is_old: bool) -> bool
     requires idle { conn.old.in_transaction ≡ false }
-    requires database { HasDatabase S.Store conn.old }
+    requires database { HasStore S.Store is_old conn.old }
     ensures idle { conn.new.in_transaction ≡ false }
     ensures live { WasOpen S.Store conn.old conn.new result }
     ensures same { ShowsCommitted S.Store conn.old conn.new }
     ensures survives { CommitsNothing S.Store conn.old conn.new }
 {
     let mut tx = conn.transaction();
-    let ran = touch(&mut tx).is_ok();
+    let ran = touch(&mut tx, is_old).is_ok();
     tx.rollback();
     ran
 }

@@ -22,6 +22,8 @@ use value_core::ListOf;
 #[derive(Drop)]
 pub struct SqlKeeper<S: Alter> {
     conn: Connection<S>,
+    /// Whether the tables are of the first schema.
+    is_old: bool,
     faults: u64,
     /// The connection as the last commit left it: for contracts alone, it has no bytes.
     last: Snapshot<Connection<S>>,
@@ -35,23 +37,25 @@ impl<S: Alter> Model for SqlKeeper<S> {
 
     ghost coded = { kept_code S.code };
 
-    ghost view = { λ k. kept k.conn k.faults k.last.value };
+    ghost view = { λ k. kept k.conn k.is_old k.faults k.last.value };
 
-    ghost invariant = { λ k. IsKept S.Store (kept k.conn k.faults k.last.value) };
+    ghost invariant = { λ k. IsKept S.Store (kept k.conn k.is_old k.faults k.last.value) };
 }
 
 impl<S: Alter + Drop> SqlKeeper<S> {
     /// A keeper of the tables that a connection's last commit left: a transaction in progress is
     /// rolled back. A store without a table gets fresh ones, in one transaction. A store with other
-    /// tables than those of the second schema is left as it is, and is a fault. Each row is read once.
+    /// tables than those of the first or the second schema is left as it is, and is a fault. Each row
+    /// is read once.
     pub fn adopt(alloc: Global, conn: Connection<S>) -> Result<SqlKeeper<S>, KeepFault>
         ensures begins { IfOk result (λ k. k.faults ≡ 0) }
         ensures tables { IfOk result (AdoptsLast S.Store conn) }
     {
         match adopted(alloc, conn) {
-            Ok(conn) => Ok(SqlKeeper {
+            Ok((conn, is_old)) => Ok(SqlKeeper {
                 last: Snapshot::of(&conn),
                 conn,
+                is_old,
                 faults: 0,
             }),
             Err(Error::SqliteFailure(ErrorCode::OutOfMemory)) => Err(KeepFault::NoMemory),
@@ -96,7 +100,7 @@ impl<S: Alter> Keeper for SqlKeeper<S> {
     ghost faults = { λ k. k.faults };
 
     fn load(&mut self, alloc: Global) -> Result<Tables, KeepFault> {
-        match load(&mut self.conn, alloc) {
+        match load(&mut self.conn, alloc, self.is_old) {
             Ok(tables) => Ok(tables),
             Err(error) => Err(refusal(&mut self.faults, error)),
         }
@@ -104,6 +108,10 @@ impl<S: Alter> Keeper for SqlKeeper<S> {
 
     fn commit(&mut self, alloc: Global, delta: &Delta) -> Result<(), KeepFault> {
         let _ = alloc;
+        if self.is_old {
+            self.faults = self.faults.saturating_add(1);
+            return Err(KeepFault::Fault);
+        }
         match commit(&mut self.conn, delta) {
             Ok(()) => {
                 self.last = Snapshot::of(&self.conn);
@@ -120,13 +128,17 @@ impl<S: Alter> Keeper for SqlKeeper<S> {
 
     fn log_of(&mut self, alloc: Global, job: u64) -> Result<Option<ListOf<u8>>, KeepFault> {
         let _ = alloc;
-        match log_of(&mut self.conn, job) {
+        match log_of(&mut self.conn, self.is_old, job) {
             Ok(log) => Ok(log),
             Err(error) => Err(refusal(&mut self.faults, error)),
         }
     }
 
     fn migrate(&mut self, alloc: Global) -> Result<Migrated, MigrateFault> {
+        if self.is_old {
+            self.faults = self.faults.saturating_add(1);
+            return Err(MigrateFault::Fault);
+        }
         match says_current(&mut self.conn, alloc) {
             Ok(true) => Ok(Migrated::Already),
             Ok(false) => Err(MigrateFault::BadRow(Table::Meta, 1)),

@@ -1,11 +1,12 @@
-//! Whether a schema is the one that a keeper makes.
+//! Whether a schema is the one that a keeper makes, or the one before it.
 ghost use Rattle.std.specs.Prelude.{◌≡◌, IsTrue, Some, None, [], ◌∷◌, pos};
 ghost use Rattle.sqlite_catalog.specs.Listing.{automatic};
 ghost use Rattle.sqlite_value.specs.Keys.{plain};
 ghost use Rattle.sql_keeper.specs.inside.Schemas.{column_of, keeper_schema, no_schema};
-ghost use Rattle.sql_keeper.specs.inside.Schemas.{number_columns, the_cache, value_columns};
+ghost use Rattle.sql_keeper.specs.inside.Schemas.{number_columns, old_schema, the_cache};
 ghost use Rattle.sql_keeper.specs.inside.Indexes.{index_of};
-ghost use Rattle.sql_keeper.specs.inside.Schemas.{the_inputs, the_logs, the_meta};
+ghost use Rattle.sql_keeper.specs.inside.Schemas.{the_inputs, the_logs, the_meta, the_old_cache};
+ghost use Rattle.sql_keeper.specs.inside.Schemas.{value_columns};
 
 use sqlite_schema::code::{Op, Terms};
 use sqlite_schema::schema::{Column, Index, Kind, Schema, Stamps, Table};
@@ -135,6 +136,17 @@ fn are_cache_columns(columns: &[Column]) -> bool
         && are_value_columns(values)
 }
 
+fn are_old_columns(columns: &[Column]) -> bool
+    ensures { IsTrue result → columns.now ≡ the_old_cache.columns }
+{
+    let [op, ckey, values @ ..] = columns else {
+        return false;
+    };
+    is_column(op, b"op", Kind::Text)
+        && is_column(ckey, b"ckey", Kind::Text)
+        && are_value_columns(values)
+}
+
 fn are_log_columns(columns: &[Column]) -> bool
     ensures { IsTrue result → columns.now ≡ the_logs.columns }
 {
@@ -217,6 +229,26 @@ fn is_cache(table: &Table) -> bool
         && is_simple(table)
 }
 
+fn is_old_cache(table: &Table) -> bool
+    ensures { IsTrue result → table.now ≡ the_old_cache }
+{
+    let [unique] = table.uniques.as_slice() else {
+        return false;
+    };
+    let [order] = table.orders.as_slice() else {
+        return false;
+    };
+    is_name(table.name.as_slice(), b"cache")
+        && table.tree == 3
+        && are_old_columns(table.columns.as_slice())
+        && table.key.is_none()
+        && are_places(table.primary.as_slice(), &[1, 2])
+        && are_places(unique.as_slice(), &[1, 2])
+        && order.digits == 0
+        && table.checks.roots.is_empty()
+        && is_simple(table)
+}
+
 fn is_logs(table: &Table) -> bool
     ensures { IsTrue result → table.now ≡ the_logs }
 {
@@ -260,6 +292,12 @@ fn is_cache_index(index: &Index) -> bool
     index.tree == 4 && is_index(index, b"sqlite_autoindex_cache2_1", 3, &[1, 2, 3])
 }
 
+fn is_old_index(index: &Index) -> bool
+    ensures { IsTrue result → index.now ≡ automatic the_old_cache 0 (1 ∷ 2 ∷ []) 4 }
+{
+    index.tree == 4 && is_index(index, b"sqlite_autoindex_cache_1", 3, &[1, 2])
+}
+
 fn are_tables(tables: &[Table]) -> bool
     ensures { IsTrue result → tables.now ≡ keeper_schema.tables }
 {
@@ -278,12 +316,39 @@ fn are_indexes(indexes: &[Index]) -> bool
     is_input_index(inputs) && is_cache_index(cache)
 }
 
-/// Whether a schema has the tables that a keeper makes, and nothing else.
-pub(crate) fn is_kept(schema: &Schema) -> bool
+fn are_old_tables(tables: &[Table]) -> bool
+    ensures { IsTrue result → tables.now ≡ old_schema.tables }
+{
+    let [meta, inputs, cache, logs] = tables else {
+        return false;
+    };
+    is_meta(meta) && is_inputs(inputs) && is_old_cache(cache) && is_logs(logs)
+}
+
+fn are_old_indexes(indexes: &[Index]) -> bool
+    ensures { IsTrue result → indexes.now ≡ old_schema.indexes }
+{
+    let [inputs, cache] = indexes else {
+        return false;
+    };
+    is_input_index(inputs) && is_old_index(cache)
+}
+
+/// Whether a schema has the tables of the second schema, and nothing else.
+pub(crate) fn is_current(schema: &Schema) -> bool
     ensures { IsTrue result → schema.now ≡ keeper_schema }
 {
     are_tables(schema.tables.as_slice())
         && are_indexes(schema.indexes.as_slice())
+        && schema.views.is_empty()
+}
+
+/// Whether a schema has the tables of the first schema, and nothing else.
+pub(crate) fn is_first(schema: &Schema) -> bool
+    ensures { IsTrue result → schema.now ≡ old_schema }
+{
+    are_old_tables(schema.tables.as_slice())
+        && are_old_indexes(schema.indexes.as_slice())
         && schema.views.is_empty()
 }
 

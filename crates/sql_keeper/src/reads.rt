@@ -2,13 +2,14 @@
 ghost use Rattle.std.specs.Prelude.{◌≡◌, IfOk, false, pos};
 ghost use Rattle.sqlite.specs.Given.{IsPlain};
 ghost use Rattle.sqlite.specs.Listing.{understood};
-ghost use Rattle.keeper_core.specs.Contents.{has_format, loaded, meta_rows};
-ghost use Rattle.sql_keeper.specs.inside.Schemas.{keeper_schema};
+ghost use Rattle.keeper_core.specs.Contents.{has_format, meta_rows};
+ghost use Rattle.sql_keeper.specs.inside.Schemas.{schema_of};
 ghost use Rattle.sql_keeper.specs.inside.ShownRows.{output_of};
-ghost use Rattle.sql_keeper.specs.inside.Calls.{CommitsNothing, HasDatabase, IsReadyIn, IsSettled};
-ghost use Rattle.sql_keeper.specs.inside.Calls.{KeepsCommitIn, ReadsAs, SaysIn, ShowsCommitted};
-ghost use Rattle.sql_keeper.specs.inside.Calls.{Steps, Undoes, input_rows, job_numbers, log_at};
-ghost use Rattle.sql_keeper.specs.inside.Calls.{meta_of, output_at, result_rows, says_second};
+ghost use Rattle.sql_keeper.specs.inside.Calls.{CommitsNothing, HasDatabase, HasStore, IsReadyForIn};
+ghost use Rattle.sql_keeper.specs.inside.Calls.{IsReadyIn, IsSettled, KeepsCommitIn, LoadsStored};
+ghost use Rattle.sql_keeper.specs.inside.Calls.{ReadsAs, SaysIn, ShowsCommitted, StaysIn, Undoes};
+ghost use Rattle.sql_keeper.specs.inside.Calls.{input_rows, job_numbers, log_at, meta_of, output_at};
+ghost use Rattle.sql_keeper.specs.inside.Calls.{rest_of, result_rows, says_second};
 
 use crate::columns::{FromRow, read_rows};
 use crate::statements::touch;
@@ -37,15 +38,19 @@ fn first_output(rows: &[Row]) -> Result<Option<ListOf<u8>>, Error>
 }
 
 /// The log of a job.
-fn read_output<S: Alter>(tx: &mut Transaction<'_, S>, job: i64) -> Result<Option<ListOf<u8>>, Error>
-    requires { IsReadyIn S.Store tx.old.conn.now }
+fn read_output<S: Alter>(
+    tx: &mut Transaction<'_, S>,
+    is_old: bool,
+    job: i64,
+) -> Result<Option<ListOf<u8>>, Error>
+    requires { IsReadyForIn S.Store is_old tx.old.conn.now }
     ensures same_reference { tx.new.conn.ghost_name ≡ tx.old.conn.ghost_name }
     ensures log { ReadsAs S.Store (output_at job) tx.old.conn.now tx.new.conn.now result }
-    ensures same { Steps S.Store (λ t. t)
-        tx.old.conn.now tx.new.conn.now result }
+    ensures same { StaysIn S.Store is_old tx.old.conn.now tx.new.conn.now result }
     ensures undone { Undoes S.Store tx.old.conn.now tx.new.conn.now result }
     ensures survives { CommitsNothing S.Store tx.old.conn.now tx.new.conn.now }
 {
+    let _ = is_old;
     let rows = tx.query_all("SELECT output FROM logs WHERE job = ?1", params![job])?;
     first_output(rows.as_slice())
 }
@@ -54,33 +59,37 @@ fn read_output<S: Alter>(tx: &mut Transaction<'_, S>, job: i64) -> Result<Option
 fn read_all<T: FromRow, S: Alter>(
     tx: &mut Transaction<'_, S>,
     alloc: Global,
+    is_old: bool,
     query: &str,
 ) -> Result<ListOf<T>, Error>
-    requires ready { IsReadyIn S.Store tx.old.conn.now }
-    requires plain { IsPlain (understood keeper_schema query.now) }
+    requires ready { IsReadyForIn S.Store is_old tx.old.conn.now }
+    requires plain { IsPlain (understood (schema_of is_old) query.now) }
     ensures same_reference { tx.new.conn.ghost_name ≡ tx.old.conn.ghost_name }
     ensures says { SaysIn S.Store T.says query.now
         tx.old.conn.now tx.new.conn.now result }
-    ensures same { Steps S.Store (λ t. t)
-        tx.old.conn.now tx.new.conn.now result }
+    ensures same { StaysIn S.Store is_old tx.old.conn.now tx.new.conn.now result }
     ensures undone { Undoes S.Store tx.old.conn.now tx.new.conn.now result }
     ensures survives { CommitsNothing S.Store tx.old.conn.now tx.new.conn.now }
 {
+    let _ = is_old;
     let rows = tx.query_all(query, params![])?;
     read_rows(alloc, rows.as_slice())
 }
 
 /// The rows of `meta`.
-fn read_meta<S: Alter>(tx: &mut Transaction<'_, S>, alloc: Global) -> Result<ListOf<MetaRow>, Error>
-    requires { IsReadyIn S.Store tx.old.conn.now }
+fn read_meta<S: Alter>(
+    tx: &mut Transaction<'_, S>,
+    alloc: Global,
+    is_old: bool,
+) -> Result<ListOf<MetaRow>, Error>
+    requires { IsReadyForIn S.Store is_old tx.old.conn.now }
     ensures same_reference { tx.new.conn.ghost_name ≡ tx.old.conn.ghost_name }
     ensures rows { ReadsAs S.Store meta_of tx.old.conn.now tx.new.conn.now result }
-    ensures same { Steps S.Store (λ t. t)
-        tx.old.conn.now tx.new.conn.now result }
+    ensures same { StaysIn S.Store is_old tx.old.conn.now tx.new.conn.now result }
     ensures undone { Undoes S.Store tx.old.conn.now tx.new.conn.now result }
     ensures survives { CommitsNothing S.Store tx.old.conn.now tx.new.conn.now }
 {
-    read_all(tx, alloc, "SELECT id, format, next_job FROM meta")
+    read_all(tx, alloc, is_old, "SELECT id, format, next_job FROM meta")
 }
 
 /// The inputs by name.
@@ -91,12 +100,16 @@ fn read_inputs<S: Alter>(
     requires { IsReadyIn S.Store tx.old.conn.now }
     ensures same_reference { tx.new.conn.ghost_name ≡ tx.old.conn.ghost_name }
     ensures rows { ReadsAs S.Store input_rows tx.old.conn.now tx.new.conn.now result }
-    ensures same { Steps S.Store (λ t. t)
-        tx.old.conn.now tx.new.conn.now result }
+    ensures same { StaysIn S.Store false tx.old.conn.now tx.new.conn.now result }
     ensures undone { Undoes S.Store tx.old.conn.now tx.new.conn.now result }
     ensures survives { CommitsNothing S.Store tx.old.conn.now tx.new.conn.now }
 {
-    read_all(tx, alloc, "SELECT name, literal FROM inputs ORDER BY name")
+    read_all(
+        tx,
+        alloc,
+        false,
+        "SELECT name, literal FROM inputs ORDER BY name",
+    )
 }
 
 /// The results by operation and key.
@@ -107,14 +120,14 @@ fn read_results<S: Alter>(
     requires { IsReadyIn S.Store tx.old.conn.now }
     ensures same_reference { tx.new.conn.ghost_name ≡ tx.old.conn.ghost_name }
     ensures rows { ReadsAs S.Store result_rows tx.old.conn.now tx.new.conn.now result }
-    ensures same { Steps S.Store (λ t. t)
-        tx.old.conn.now tx.new.conn.now result }
+    ensures same { StaysIn S.Store false tx.old.conn.now tx.new.conn.now result }
     ensures undone { Undoes S.Store tx.old.conn.now tx.new.conn.now result }
     ensures survives { CommitsNothing S.Store tx.old.conn.now tx.new.conn.now }
 {
     read_all(
         tx,
         alloc,
+        false,
         "SELECT op, khash, ckey, cvalue, fine, result, finished, job, rebuild FROM cache2 ORDER BY op, ckey, khash",
     )
 }
@@ -124,12 +137,11 @@ fn read_jobs<S: Alter>(tx: &mut Transaction<'_, S>, alloc: Global) -> Result<Lis
     requires { IsReadyIn S.Store tx.old.conn.now }
     ensures same_reference { tx.new.conn.ghost_name ≡ tx.old.conn.ghost_name }
     ensures rows { ReadsAs S.Store job_numbers tx.old.conn.now tx.new.conn.now result }
-    ensures same { Steps S.Store (λ t. t)
-        tx.old.conn.now tx.new.conn.now result }
+    ensures same { StaysIn S.Store false tx.old.conn.now tx.new.conn.now result }
     ensures undone { Undoes S.Store tx.old.conn.now tx.new.conn.now result }
     ensures survives { CommitsNothing S.Store tx.old.conn.now tx.new.conn.now }
 {
-    read_all(tx, alloc, "SELECT job FROM logs ORDER BY job")
+    read_all(tx, alloc, false, "SELECT job FROM logs ORDER BY job")
 }
 
 /// Whether there is one row of `meta`, and it has the format of the second schema.
@@ -154,20 +166,18 @@ fn meta_alone(alloc: Global, meta: ListOf<MetaRow>) -> Tables
     }
 }
 
-/// All rows in order, or those of `meta` alone if the format isn't that of the second schema.
-fn read_tables<S: Alter>(tx: &mut Transaction<'_, S>, alloc: Global) -> Result<Tables, Error>
+/// All rows in order, after those of `meta`.
+fn read_rest<S: Alter>(
+    tx: &mut Transaction<'_, S>,
+    alloc: Global,
+    meta: ListOf<MetaRow>,
+) -> Result<Tables, Error>
     requires { IsReadyIn S.Store tx.old.conn.now }
     ensures same_reference { tx.new.conn.ghost_name ≡ tx.old.conn.ghost_name }
-    ensures rows { ReadsAs S.Store loaded tx.old.conn.now tx.new.conn.now result }
-    ensures same { Steps S.Store (λ t. t)
-        tx.old.conn.now tx.new.conn.now result }
+    ensures rows { ReadsAs S.Store (rest_of meta) tx.old.conn.now tx.new.conn.now result }
     ensures kept { KeepsCommitIn S.Store tx.old.conn.now tx.new.conn.now }
     ensures survives { CommitsNothing S.Store tx.old.conn.now tx.new.conn.now }
 {
-    let meta = read_meta(tx, alloc)?;
-    if !is_current(meta.as_slice()) {
-        return Ok(meta_alone(alloc, meta));
-    }
     let inputs = read_inputs(tx, alloc)?;
     let cache = read_results(tx, alloc)?;
     let logs = read_jobs(tx, alloc)?;
@@ -180,26 +190,54 @@ fn read_tables<S: Alter>(tx: &mut Transaction<'_, S>, alloc: Global) -> Result<T
 }
 
 /// All rows in order, or those of `meta` alone if the format isn't that of the second schema.
-pub(crate) fn load<S: Alter>(conn: &mut Connection<S>, alloc: Global) -> Result<Tables, Error>
+/// Tables of the first schema that have its number are refused.
+fn read_tables<S: Alter>(
+    tx: &mut Transaction<'_, S>,
+    alloc: Global,
+    is_old: bool,
+) -> Result<Tables, Error>
+    requires { IsReadyForIn S.Store is_old tx.old.conn.now }
+    ensures same_reference { tx.new.conn.ghost_name ≡ tx.old.conn.ghost_name }
+    ensures rows { LoadsStored S.Store is_old tx.old.conn.now tx.new.conn.now result }
+    ensures kept { KeepsCommitIn S.Store tx.old.conn.now tx.new.conn.now }
+    ensures survives { CommitsNothing S.Store tx.old.conn.now tx.new.conn.now }
+{
+    let meta = read_meta(tx, alloc, is_old)?;
+    if !is_current(meta.as_slice()) {
+        return Ok(meta_alone(alloc, meta));
+    }
+    if is_old {
+        return Err(Error::InvalidQuery);
+    }
+    read_rest(tx, alloc, meta)
+}
+
+/// All rows in order, or those of `meta` alone if the format isn't that of the second schema.
+pub(crate) fn load<S: Alter>(
+    conn: &mut Connection<S>,
+    alloc: Global,
+    is_old: bool,
+) -> Result<Tables, Error>
     requires idle { conn.old.in_transaction ≡ false }
-    requires database { HasDatabase S.Store conn.old }
+    requires database { HasStore S.Store is_old conn.old }
     ensures idle { conn.new.in_transaction ≡ false }
-    ensures rows { ReadsAs S.Store loaded conn.old conn.new result }
+    ensures rows { LoadsStored S.Store is_old conn.old conn.new result }
     ensures same { ShowsCommitted S.Store conn.old conn.new }
     ensures survives { CommitsNothing S.Store conn.old conn.new }
 {
     let mut tx = conn.transaction();
-    touch(&mut tx)?;
-    read_tables(&mut tx, alloc)
+    touch(&mut tx, is_old)?;
+    read_tables(&mut tx, alloc, is_old)
 }
 
 /// The log of a job.
 pub(crate) fn log_of<S: Alter>(
     conn: &mut Connection<S>,
+    is_old: bool,
     job: u64,
 ) -> Result<Option<ListOf<u8>>, Error>
     requires idle { conn.old.in_transaction ≡ false }
-    requires database { HasDatabase S.Store conn.old }
+    requires database { HasStore S.Store is_old conn.old }
     requires settled { IsSettled S.Store conn.old }
     ensures idle { conn.new.in_transaction ≡ false }
     ensures log { ReadsAs S.Store (log_at job) conn.old conn.new result }
@@ -210,8 +248,8 @@ pub(crate) fn log_of<S: Alter>(
         return Ok(None);
     }
     let mut tx = conn.transaction();
-    touch(&mut tx)?;
-    read_output(&mut tx, job as i64)
+    touch(&mut tx, is_old)?;
+    read_output(&mut tx, is_old, job as i64)
 }
 
 /// Whether the tables say that they are of the second schema.
@@ -224,7 +262,7 @@ pub(crate) fn says_current<S: Alter>(conn: &mut Connection<S>, alloc: Global) ->
     ensures survives { CommitsNothing S.Store conn.old conn.new }
 {
     let mut tx = conn.transaction();
-    touch(&mut tx)?;
-    let meta = read_meta(&mut tx, alloc)?;
+    touch(&mut tx, false)?;
+    let meta = read_meta(&mut tx, alloc, false)?;
     Ok(is_current(meta.as_slice()))
 }

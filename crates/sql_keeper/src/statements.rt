@@ -3,20 +3,21 @@ ghost use Rattle.std.specs.Prelude.{◌≡◌};
 ghost use Rattle.sql_keeper.specs.inside.Steps.{with_next_job, without_result};
 ghost use Rattle.keeper_core.specs.Contents.{with_output, with_literal};
 ghost use Rattle.sql_keeper.specs.inside.Borrowed.{key_from, with_texts};
-ghost use Rattle.sql_keeper.specs.inside.Calls.{CommitsNothing, HasDatabase, IsInside, IsReadyIn};
+ghost use Rattle.sql_keeper.specs.inside.Calls.{CommitsNothing, HasStore, IsInside, IsReadyIn};
 ghost use Rattle.sql_keeper.specs.inside.Calls.{Steps, Touches, Undoes};
 
 use sqlite::{Alter, Error, Transaction, params};
 
-/// Nothing, which an open connection alone runs.
-pub(crate) fn touch<S: Alter>(tx: &mut Transaction<'_, S>) -> Result<usize, Error>
+/// Nothing, which an open connection alone runs, over tables of the first schema or the second.
+pub(crate) fn touch<S: Alter>(tx: &mut Transaction<'_, S>, is_old: bool) -> Result<usize, Error>
     requires inside { IsInside S.Store tx.old.conn.now }
-    requires database { HasDatabase S.Store tx.old.conn.now }
+    requires database { HasStore S.Store is_old tx.old.conn.now }
     ensures same_reference { tx.new.conn.ghost_name ≡ tx.old.conn.ghost_name }
-    ensures ready { Touches S.Store tx.old.conn.now tx.new.conn.now result }
+    ensures ready { Touches S.Store is_old tx.old.conn.now tx.new.conn.now result }
     ensures undone { Undoes S.Store tx.old.conn.now tx.new.conn.now result }
     ensures survives { CommitsNothing S.Store tx.old.conn.now tx.new.conn.now }
 {
+    let _ = is_old;
     tx.execute("", &[])
 }
 

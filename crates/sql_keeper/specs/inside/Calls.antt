@@ -1,5 +1,5 @@
 -- What a call says of the connection that it was given. Each says nothing if the disk didn't return what was written.
-use Rattle.std.specs.Prelude.{◌≡◌, ℕ, ℤ, pos, Bool, List, map, Option, Result, Err, IsTrue, IfOk, OnOk, OnErr}
+use Rattle.std.specs.Prelude.{◌≡◌, ℕ, ℤ, pos, Bool, false, List, map, Option, Some, Result, Err, IsTrue, IfOk, OnOk, OnErr}
 use Rattle.std.specs.FinMap.{entries, get, keys}
 use Rattle.sqlite.specs.Held.{Held, state}
 use Rattle.sqlite.specs.Order.{Row}
@@ -13,13 +13,17 @@ use Rattle.core_rules.specs.declared.done.Delta.{Delta}
 use Rattle.keeper_core.specs.declared.tables.CacheRow.{CacheRow}
 use Rattle.keeper_core.specs.declared.tables.InputRow.{InputRow}
 use Rattle.keeper_core.specs.declared.tables.MetaRow.{MetaRow}
+use Rattle.keeper_core.specs.declared.stored.Stored.{Stored}
+use Rattle.keeper_core.specs.declared.tables.Tables.{Tables}
+use Rattle.keeper_core.specs.declared.stored.Stored.TheVariants.{Current}
 use Rattle.keeper_core.specs.Commits.{with_delta}
+use Rattle.keeper_core.specs.EitherSchema.{loaded_of}
 use Rattle.keeper_core.specs.Contents.{Bytes, Contents, cache_row, has_format, input_row, log_in}
-use Rattle.sql_keeper.specs.Rows.{contents}
+use Rattle.sql_keeper.specs.Rows.{contents, stored, stored_as}
 use Rattle.sql_keeper.specs.inside.Adopting.{IsAdopted}
-use Rattle.sql_keeper.specs.inside.Databases.{AreKeyed, IsKeeperDatabase}
+use Rattle.sql_keeper.specs.inside.Databases.{AreKeyed, IsStoreDatabase}
 use Rattle.sql_keeper.specs.inside.Fresh.{HasMade, IsBlank, IsMaking, MakesFresh, MakesTable}
-use Rattle.sql_keeper.specs.inside.Steps.{HasCommitted, IsReady, IsUndone, LeavesEither, LeavesNoMore, Makes, Says}
+use Rattle.sql_keeper.specs.inside.Steps.{HasCommitted, IsReadyFor, IsUndone, LeavesEither, LeavesNoMore, Makes, Says, Stays}
 
 -- ---- parts of the contents
 
@@ -38,6 +42,10 @@ result_rows t = map cache_row (entries t.cache)
 -- the numbers of the jobs that have a log
 abbrev pub job_numbers : Contents → List ℤ
 job_numbers t = keys t.logs
+
+-- all rows, after these of meta
+abbrev pub rest_of : List MetaRow → Contents → Tables
+rest_of meta t = record { meta = meta; inputs = input_rows t; cache = result_rows t; logs = job_numbers t }
 
 -- the output under a number
 abbrev pub output_at : ℤ → Contents → Option Bytes
@@ -58,9 +66,13 @@ module _ {S : Type 0} (g : Ghosts S) where
   abbrev pub IsInside : Held S → Type 0
   IsInside h = HasCleanDisk (state g h) → IsTrue (state g h).in_transaction
 
-  -- it is ready for a step
+  -- it is ready for a step on the tables of a schema
+  abbrev pub IsReadyForIn : Bool → Held S → Type 0
+  IsReadyForIn is_old h = HasCleanDisk (state g h) → IsReadyFor is_old (state g h)
+
+  -- on those of the second
   abbrev pub IsReadyIn : Held S → Type 0
-  IsReadyIn h = HasCleanDisk (state g h) → IsReady (state g h)
+  IsReadyIn = IsReadyForIn false
 
   -- it has these tables, all empty
   abbrev pub IsMakingIn : Schema → Held S → Type 0
@@ -70,9 +82,13 @@ module _ {S : Type 0} (g : Ghosts S) where
   abbrev pub IsBlankIn : Held S → Type 0
   IsBlankIn h = HasCleanDisk (state g h) → IsBlank (state g h)
 
-  -- it has the tables, if it is open
+  -- it has the tables of a schema, if it is open
+  abbrev pub HasStore : Bool → Held S → Type 0
+  HasStore is_old h = HasCleanDisk (state g h) → IsTrue (state g h).is_open → IsStoreDatabase is_old (state g h).now
+
+  -- those of the second
   abbrev pub HasDatabase : Held S → Type 0
-  HasDatabase h = HasCleanDisk (state g h) → IsTrue (state g h).is_open → IsKeeperDatabase (state g h).now
+  HasDatabase = HasStore false
 
   -- all is committed, if it is open
   abbrev pub IsSettled : Held S → Type 0
@@ -81,12 +97,24 @@ module _ {S : Type 0} (g : Ghosts S) where
   -- ---- inside a transaction
 
   -- it was open, is ready for a step, and is otherwise the same
-  abbrev pub Touches : {T : Type 0} → Held S → Held S → Result T Error → Type 0
-  Touches old new result = HasCleanDisk (state g new) → OnOk result (IsTrue (state g old).is_open × IsReady (state g new) × ((state g new).now ≡ (state g old).now) × ((state g new).committed ≡ (state g old).committed))
+  abbrev pub Touches : {T : Type 0} → Bool → Held S → Held S → Result T Error → Type 0
+  Touches is_old old new result = HasCleanDisk (state g new) → OnOk result (IsTrue (state g old).is_open × Stays is_old (state g old) (state g new))
+
+  -- Ok changed nothing
+  abbrev pub StaysIn : {T : Type 0} → Bool → Held S → Held S → Result T Error → Type 0
+  StaysIn is_old old new result = HasCleanDisk (state g new) → OnOk result (Stays is_old (state g old) (state g new))
 
   -- Ok made a change
   abbrev pub Steps : {T : Type 0} → (Contents → Contents) → Held S → Held S → Result T Error → Type 0
   Steps change old new result = HasCleanDisk (state g new) → OnOk result (Makes change (state g old) (state g new))
+
+  -- it was open, and Ok made a change
+  abbrev pub MakesIn : {T : Type 0} → (Contents → Contents) → Held S → Held S → Result T Error → Type 0
+  MakesIn change old new result = HasCleanDisk (state g new) → OnOk result (IsTrue (state g old).is_open × Makes change (state g old) (state g new))
+
+  -- the same, with what the trees show then
+  abbrev pub MakesShown : {T : Type 0} → (Contents → Contents) → Held S → Held S → Result T Error → Type 0
+  MakesShown change old new result = HasCleanDisk (state g new) → OnOk result (IsTrue (state g old).is_open × Makes change (state g old) (state g new) × (stored (state g new).now.trees ≡ Current (change (contents (state g old).now.trees))))
 
   -- Ok made a table
   abbrev pub AddsTable : {T : Type 0} → Schema → Held S → Held S → Result T Error → Type 0
@@ -107,6 +135,14 @@ module _ {S : Type 0} (g : Ghosts S) where
   -- what was read is this part of the contents
   abbrev pub ReadsAs : {T : Type 0} → (Contents → T) → Held S → Held S → Result T Error → Type 0
   ReadsAs part old new result = HasCleanDisk (state g new) → IfOk result (λ x. x ≡ part (contents (state g old).now.trees))
+
+  -- what was read is this of what the tables of a schema show
+  abbrev pub ReadsStored : {T : Type 0} → Bool → (Stored → T) → Held S → Held S → Result T Error → Type 0
+  ReadsStored is_old part old new result = HasCleanDisk (state g new) → IfOk result (λ x. x ≡ part (stored_as is_old (state g old).now.trees))
+
+  -- what was loaded is what the tables of a schema show
+  abbrev pub LoadsStored : Bool → Held S → Held S → Result Tables Error → Type 0
+  LoadsStored is_old old new result = HasCleanDisk (state g new) → IfOk result (λ tables. loaded_of (stored_as is_old (state g old).now.trees) ≡ Some tables)
 
   -- nothing was committed
   abbrev pub KeepsCommitIn : Held S → Held S → Type 0
@@ -164,6 +200,6 @@ module _ {S : Type 0} (g : Ghosts S) where
   abbrev pub ShowsLastOf : Held S → Held S → Type 0
   ShowsLastOf before h = HasCleanDisk (state g h) → (state g h).now.trees ≡ (state g before).committed.trees
 
-  -- it was adopted
-  abbrev pub AdoptedFrom : Held S → Held S → Type 0
-  AdoptedFrom before h = HasCleanDisk (state g h) → IsAdopted (state g before) (state g h)
+  -- it was adopted, with the tables of a schema
+  abbrev pub AdoptedFrom : Held S → Held S → Bool → Type 0
+  AdoptedFrom before h is_old = HasCleanDisk (state g h) → IsAdopted is_old (state g before) (state g h)

@@ -1,6 +1,6 @@
 -- The tables as the engine knows them, and the texts of the statements.
 use Rattle.sqlite.specs.Collation.TheVariants.{Binary}
-use Rattle.std.specs.Prelude.{true, false, [], ◌∷◌, Some, None, codes, List, ℕ, pos}
+use Rattle.std.specs.Prelude.{Bool, true, false, [], ◌∷◌, Some, None, codes, List, ℕ, pos}
 use Rattle.sqlite.specs.declared.types.Value.TheVariants.{Null, Int}
 use Rattle.sqlite.specs.Change.{created}
 use Rattle.sqlite.specs.Term.{lit, col, op2}
@@ -82,6 +82,23 @@ cache = record {
   is_counted = false;
 }
 
+-- the table of results of the first schema
+abbrev pub old_cache : Table
+old_cache = record {
+  name = codes "cache";
+  tree = 0;
+  columns = column_of (codes "op") Text ∷ column_of (codes "ckey") Text ∷ value_columns;
+  key = None;
+  primary = 1 ∷ 2 ∷ [];
+  uniques = (1 ∷ 2 ∷ []) ∷ [];
+  orders = plain ∷ [];
+  checks = [];
+  references = [];
+  computed = [];
+  stamps = record { places = []; terms = []; formats = [] };
+  is_counted = false;
+}
+
 -- the table of outputs
 abbrev pub logs : Table
 logs = record {
@@ -103,6 +120,15 @@ logs = record {
 abbrev pub keeper_schema : Schema
 keeper_schema = created (created (created (created no_schema meta) inputs) cache) logs
 
+-- the four tables of the first schema, in the same trees
+abbrev pub old_schema : Schema
+old_schema = created (created (created (created no_schema meta) inputs) old_cache) logs
+
+-- the schema of a store, which is of the first or of the second
+abbrev pub schema_of : Bool → Schema
+schema_of true = old_schema
+schema_of false = keeper_schema
+
 -- the table of numbers in its tree
 abbrev pub the_meta : Table
 the_meta = record meta { tree = 0 }
@@ -114,6 +140,10 @@ the_inputs = record inputs { tree = 1 }
 -- the table of results in its tree
 abbrev pub the_cache : Table
 the_cache = record cache { tree = 3 }
+
+-- the table of results of the first schema in its tree
+abbrev pub the_old_cache : Table
+the_old_cache = record old_cache { tree = 3 }
 
 -- the table of outputs in its tree
 abbrev pub the_logs : Table

@@ -1,5 +1,5 @@
 -- What a statement inside a transaction, and a whole transaction, makes of the contents.
-use Rattle.std.specs.Prelude.{◌≡◌, ◌⊎◌, ℕ, ℤ, List, [], map, Option, IsTrue}
+use Rattle.std.specs.Prelude.{◌≡◌, ◌⊎◌, ℕ, ℤ, Bool, false, List, [], map, Option, IsTrue}
 use Rattle.std.specs.FinMap.{remove}
 use Rattle.sqlite.specs.Tree.{Trees}
 use Rattle.sqlite.specs.Order.{Row}
@@ -7,9 +7,10 @@ use Rattle.sqlite.specs.State.{State, IsUnchanged, IsRolledBack, Shown}
 use Rattle.sched_rows.specs.declared.row.Row.{Row as Result}
 use Rattle.keeper_core.specs.declared.tables.CacheKey.{CacheKey}
 use Rattle.keeper_core.specs.Commits.{with_input, with_log, with_next, with_put, with_void}
+use Rattle.keeper_core.specs.declared.stored.Stored.TheVariants.{Current}
 use Rattle.keeper_core.specs.Contents.{Bytes, Contents}
-use Rattle.sql_keeper.specs.Rows.{contents}
-use Rattle.sql_keeper.specs.inside.Databases.{IsKeeperDatabase}
+use Rattle.sql_keeper.specs.Rows.{contents, stored}
+use Rattle.sql_keeper.specs.inside.Databases.{IsKeeperDatabase, IsStoreDatabase}
 
 -- ---- changes
 
@@ -39,11 +40,21 @@ with_log_in o t = record t { logs = with_log o t.logs }
 
 -- ---- steps
 
--- the connection is open, in a transaction over the tables
-pub record IsReady (s : State) : Type 0 where
+-- the connection is open, in a transaction over the tables of a schema
+pub record IsReadyFor (is_old : Bool) (s : State) : Type 0 where
   pub is_open : IsTrue s.is_open
-  pub database : IsKeeperDatabase s.now
+  pub database : IsStoreDatabase is_old s.now
   pub inside : IsTrue s.in_transaction
+
+-- over those of the second
+abbrev pub IsReady : State → Type 0
+IsReady = IsReadyFor false
+
+-- a step changes nothing, and stays in the transaction
+pub record Stays (is_old : Bool) (old new : State) : Type 0 where
+  pub ready : IsReadyFor is_old new
+  pub same : new.now ≡ old.now
+  pub kept : new.committed ≡ old.committed
 
 -- a step makes a change, and stays in the transaction
 pub record Makes (change : Contents → Contents) (old new : State) : Type 0 where
@@ -69,7 +80,7 @@ pub record HasCommitted (change : Contents → Contents) (old new : State) : Typ
 
 -- a stop leaves what it could leave before, or the contents after the change
 abbrev pub LeavesEither : (Contents → Contents) → State → State → Type 0
-LeavesEither change old new = (db : Trees) → new.may_leave db → old.may_leave db ⊎ (IsTrue old.is_open × (contents db ≡ change (contents old.now.trees)))
+LeavesEither change old new = (db : Trees) → new.may_leave db → old.may_leave db ⊎ (IsTrue old.is_open × (stored db ≡ Current (change (contents old.now.trees))))
 
 -- a stop leaves nothing that it couldn't leave before
 abbrev pub LeavesNoMore : State → State → Type 0

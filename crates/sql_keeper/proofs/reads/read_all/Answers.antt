@@ -1,7 +1,7 @@
 use Rattle.std.proofs.Common.{arith, inl}
 use Rattle.sqlite.specs.State.{HasCleanDisk}
 use Rattle.sqlite.specs.Held.{state}
-use Rattle.sql_keeper.specs.inside.Steps.{IsUndone, Makes}
+use Rattle.sql_keeper.specs.inside.Steps.{IsUndone, Stays}
 use Rattle.sql_keeper.proofs.Reading.{on_err, on_ok, query_undone, shown_same, stays}
 use Rattle.sql_keeper.proofs.reads.read_all.Goals as goal
 
@@ -17,7 +17,7 @@ returns-clause-same g c clean =
     let new = state g.S.Store c.query_all.new.self.conn.now in
     let was : HasCleanDisk old = omega (arith, c.query_all.ensures.survives.clean) in
     let ready = c.requires.ready was in
-    on_ok c.read_rows.result (Makes (λ t. t) old new) (stays old new ready (shown_same old new _ _ c.in_ok-rows.rows.items ready.database c.requires.plain (c.in_ok-rows.ensures.ok clean)))
+    on_ok c.read_rows.result (Stays c.args.is_old old new) (stays c.args.is_old old new ready (shown_same c.args.is_old old new _ _ c.in_ok-rows.rows.items ready.database c.requires.plain (c.in_ok-rows.ensures.ok clean)))
 
 pub returns-clause-undone : goal.returns-clause-undone
 returns-clause-undone g c clean =
@@ -25,4 +25,4 @@ returns-clause-undone g c clean =
     let new = state g.S.Store c.query_all.new.self.conn.now in
     let was : HasCleanDisk old = omega (arith, c.query_all.ensures.survives.clean) in
     let ready = c.requires.ready was in
-    on_err c.read_rows.result (IsUndone old new) (inl (shown_same old new _ _ c.in_ok-rows.rows.items ready.database c.requires.plain (c.in_ok-rows.ensures.ok clean)))
+    on_err c.read_rows.result (IsUndone old new) (inl (shown_same c.args.is_old old new _ _ c.in_ok-rows.rows.items ready.database c.requires.plain (c.in_ok-rows.ensures.ok clean)))

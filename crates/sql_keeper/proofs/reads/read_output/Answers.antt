@@ -3,7 +3,7 @@ use Rattle.std.specs.FinMap.{get}
 use Rattle.std.proofs.lemmas.Int.{to_z-of_z}
 use Rattle.sqlite.specs.State.{HasCleanDisk}
 use Rattle.sqlite.specs.Held.{state}
-use Rattle.sql_keeper.specs.inside.Steps.{IsUndone, Makes}
+use Rattle.sql_keeper.specs.inside.Steps.{IsUndone, Stays}
 use Rattle.sql_keeper.specs.inside.ShownRows.{output_of}
 use Rattle.sql_keeper.specs.Rows.{contents}
 use Rattle.sql_keeper.proofs.LogRead.{log_select_plain, log_shown_is}
@@ -23,7 +23,7 @@ returns-clause-log g c clean =
     let was : HasCleanDisk old = omega (arith, c.query_all.ensures.survives.clean) in
     let ready = c.requires was in
     let shown = rw (c.params-to_sql.ensures, to_z-of_z w64 c.args.job c.ranges.job) at (c.in_ok-rows.ensures.ok clean) in
-    ok_same c.first_output.result (output_of c.as_slice.result.now) (get (contents old.now.trees).logs c.args.job) (ap output_of c.as_slice.ensures.value ∙ log_shown_is old new c.args.job c.in_ok-rows.rows.items ready.database shown) c.first_output.ensures
+    ok_same c.first_output.result (output_of c.as_slice.result.now) (get (contents old.now.trees).logs c.args.job) (ap output_of c.as_slice.ensures.value ∙ log_shown_is c.args.is_old old new c.args.job c.in_ok-rows.rows.items ready.database shown) c.first_output.ensures
 
 pub returns-clause-same : goal.returns-clause-same
 returns-clause-same g c clean =
@@ -32,7 +32,7 @@ returns-clause-same g c clean =
     let was : HasCleanDisk old = omega (arith, c.query_all.ensures.survives.clean) in
     let ready = c.requires was in
     let shown = rw (c.params-to_sql.ensures, to_z-of_z w64 c.args.job c.ranges.job) at (c.in_ok-rows.ensures.ok clean) in
-    on_ok c.first_output.result (Makes (λ t. t) old new) (stays old new ready (shown_same old new _ _ c.in_ok-rows.rows.items ready.database log_select_plain shown))
+    on_ok c.first_output.result (Stays c.args.is_old old new) (stays c.args.is_old old new ready (shown_same c.args.is_old old new _ _ c.in_ok-rows.rows.items ready.database (log_select_plain c.args.is_old) shown))
 
 pub returns-clause-undone : goal.returns-clause-undone
 returns-clause-undone g c clean =
@@ -41,4 +41,4 @@ returns-clause-undone g c clean =
     let was : HasCleanDisk old = omega (arith, c.query_all.ensures.survives.clean) in
     let ready = c.requires was in
     let shown = rw (c.params-to_sql.ensures, to_z-of_z w64 c.args.job c.ranges.job) at (c.in_ok-rows.ensures.ok clean) in
-    on_err c.first_output.result (IsUndone old new) (inl (shown_same old new _ _ c.in_ok-rows.rows.items ready.database log_select_plain shown))
+    on_err c.first_output.result (IsUndone old new) (inl (shown_same c.args.is_old old new _ _ c.in_ok-rows.rows.items ready.database (log_select_plain c.args.is_old) shown))
