@@ -53,7 +53,7 @@ use Rattle.sql_keeper.proofs.InputMap.{bytes_same, text_is}
 use Rattle.sql_keeper.proofs.Selected.{Shows as Selects, shows}
 use Rattle.sql_keeper.proofs.Rows.{plain_equal, equal_parts, equal_from, left_from, left_has, without_all_keyed, once}
 
-blob_is : (v : Value) → is_of kind.Blob v ≡ true → is_null v ≡ false → v ≡ Blob (bytes v)
+pub blob_is : (v : Value) → is_of kind.Blob v ≡ true → is_null v ≡ false → v ≡ Blob (bytes v)
 blob_is Null h p = absurd (cc)
 blob_is (Int n) h p = absurd (cc)
 blob_is (Real x) h p = absurd (cc)
@@ -86,7 +86,7 @@ module _ (db : Trees) (sound : IsDatabase (record { schema = keeper_schema; tree
       let present = keeps_at NotNull keeper_schema db the_cache r (sound.obeys.rules NotNull) (inr (inr (inl refl))) h in
       cache_typed r (and_parts _ _ typed).0 present
 
-texts_tie : (s t : Bytes) → s ≡ t → value_cmp (Text s) (Text t) ≡ Equal
+pub texts_tie : (s t : Bytes) → s ≡ t → value_cmp (Text s) (Text t) ≡ Equal
 texts_tie s t e = value_cmp-Text s t ∙ subst (λ u. bytes_cmp s u ≡ Equal) e (tied_itself nat_list_cmp_total s)
 
 blobs_tie : (s t : Bytes) → s ≡ t → value_cmp (Blob s) (Blob t) ≡ Equal

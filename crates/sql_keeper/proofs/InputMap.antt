@@ -9,6 +9,7 @@ use Rattle.std.specs.FinMap.{insert, IsAntisymmetric, slice_cmp-IsAntisymmetric,
 use Rattle.sqlite.specs.declared.types.Value.{Value}
 use Rattle.sqlite.specs.declared.types.Value.TheVariants.{Null, Int, Real, Text, Blob}
 use Rattle.sqlite.specs.Order.{Row, value_cmp, column, bytes}
+use Rattle.sqlite.specs.Schema.{Schema}
 use Rattle.sqlite.specs.Tree.{Trees}
 use Rattle.sqlite.specs.Effect.{IsDatabase}
 use Rattle.sqlite_value.specs.Keys.{plain}
@@ -65,11 +66,11 @@ input_typed (a ∷ b ∷ c ∷ rest) t p =
       literal = text_is c (and_parts _ _ typed.1).0 (not-true _ (and_parts _ _ present.1).0);
     }
 
-module _ (db : Trees) (sound : IsDatabase (record { schema = keeper_schema; trees = db })) where
+module _ (schema : Schema) (listed : Has schema.tables the_inputs) (db : Trees) (sound : IsDatabase (record { schema = schema; trees = db })) where
   pub input_is : (r : Row) → Has (db 1) r → IsInput r
   input_is r h =
-      let typed = keeps_at Datatype keeper_schema db the_inputs r (sound.obeys.rules Datatype) (inr (inl refl)) h in
-      let present = keeps_at NotNull keeper_schema db the_inputs r (sound.obeys.rules NotNull) (inr (inl refl)) h in
+      let typed = keeps_at Datatype schema db the_inputs r (sound.obeys.rules Datatype) listed h in
+      let present = keeps_at NotNull schema db the_inputs r (sound.obeys.rules NotNull) listed h in
       input_typed r (and_parts _ _ typed).0 present
 
 -- two rows share the key where they have one name
@@ -100,16 +101,16 @@ module _ (db after : Trees) (sound : IsDatabase (record { schema = keeper_schema
   new_is = record { name = refl; literal = refl }
 
   sharing_names : (r s : Row) → Has (db 1) r → Has (db 1) s → name_in r ≡ name_in s → list_any (shares None the_inputs s r) keeper_schema.indexes ≡ true
-  sharing_names r s h k e = sharing r s (agree_names r s (input_is db sound r h) (input_is db sound s k) e)
+  sharing_names r s h k e = sharing r s (agree_names r s (input_is keeper_schema (inr (inl refl)) db sound r h) (input_is keeper_schema (inr (inl refl)) db sound s k) e)
 
   unique : (r : Row) → Has (db 1) r → list_all (λ i. not (guards i the_inputs && clashes i.order i.columns (db 1) r)) keeper_schema.indexes ≡ true
   unique r h = keeps_at Unique keeper_schema db the_inputs r (sound.obeys.rules Unique) (inr (inl refl)) h
 
   meets : (r : Row) → Has (db 1) r → name_in r ≡ name → list_any (shares None the_inputs (input_row db name literal) r) keeper_schema.indexes ≡ true
-  meets r h e = sharing r (input_row db name literal) (agree_names r (input_row db name literal) (input_is db sound r h) new_is e)
+  meets r h e = sharing r (input_row db name literal) (agree_names r (input_row db name literal) (input_is keeper_schema (inr (inl refl)) db sound r h) new_is e)
 
   met : (r : Row) → Has (db 1) r → list_any (shares None the_inputs (input_row db name literal) r) keeper_schema.indexes ≡ true → name_in r ≡ name
-  met r h e = names_agree r (input_row db name literal) (input_is db sound r h) new_is (shared r (input_row db name literal) e)
+  met r h e = names_agree r (input_row db name literal) (input_is keeper_schema (inr (inl refl)) db sound r h) new_is (shared r (input_row db name literal) e)
 
   pub input_map : table_of bytes_cmp name_in literal_in (after 1) ≡ insert (table_of bytes_cmp name_in literal_in (db 1)) name literal
   input_map = replaced_map nat_list_cmp_total bytes_same name_in literal_in keeper_schema the_inputs (db 1) keyed sharing_names unique db after (Text name ∷ Text literal ∷ []) refl it meets met

@@ -1,5 +1,5 @@
 -- What is known of a keeper, from what a call says of the connection.
-use Rattle.std.proofs.Common.{◌≡◌, inl, inr, Bool, true, false, if◌then◌else◌, Some, None, IfSome, IsTrue, Result, Ok, Err, arith, refl, sym, ap, subst, ◌∙◌}
+use Rattle.std.proofs.Common.{◌≡◌, inl, inr, ℕ, Bool, true, false, if◌then◌else◌, Some, None, IfSome, IsTrue, Result, Ok, Err, arith, refl, sym, ap, subst, ◌∙◌}
 use Rattle.sqlite.specs.Tree.{Trees}
 use Rattle.sqlite.specs.Store.{Ghosts}
 use Rattle.sqlite.specs.View.{doubt}
@@ -11,15 +11,18 @@ use Rattle.core_rules.specs.declared.done.Delta.{Delta}
 use Rattle.keeper_core.specs.declared.keeper.KeepFault.{KeepFault}
 use Rattle.keeper_core.specs.declared.keeper.KeepFault.TheVariants as keep
 use Rattle.keeper_core.specs.declared.stored.Stored.{Stored}
-use Rattle.keeper_core.specs.declared.stored.Stored.TheVariants.{Current}
+use Rattle.keeper_core.specs.declared.stored.Stored.TheVariants.{Current, Old}
 use Rattle.keeper_core.specs.Commits.{with_delta}
-use Rattle.keeper_core.specs.Contents.{Contents}
-use Rattle.keeper_core.specs.EitherSchema.{committed, is_old}
+use Rattle.keeper_core.specs.Contents.{Contents, old_rows}
+use Rattle.keeper_core.specs.WellFormed.{old_first_bad}
+use Rattle.keeper_core.specs.declared.tables.Table.{Table}
+use Rattle.keeper_core.specs.EitherSchema.{committed, first_unmovable, is_old, migrated}
 use Rattle.keeper_core.specs.KeeperCalls as calls
 use Rattle.sql_keeper.specs.Kept.{Kept, MayLeave, known_of, tables_of}
-use Rattle.sql_keeper.specs.Rows.{contents, stored, stored_as}
+use Rattle.sql_keeper.specs.Rows.{contents, old_contents, stored, stored_as}
 use Rattle.sql_keeper.specs.inside.Databases.{IsStoreDatabase}
 use Rattle.sql_keeper.specs.inside.Keeping.{IsKept, unmigrated}
+use Rattle.sql_keeper.specs.inside.Moving.{HasMovedAll, LeavesMoved, ShowsStill}
 use Rattle.sql_keeper.specs.inside.Steps.{HasCommitted, LeavesEither}
 use Rattle.sql_keeper.proofs.Stores.{stored_current, stored_is}
 
@@ -189,3 +192,53 @@ module _ {S : Type 0} (g : Ghosts S) (old new : Kept S) (last : new.last ≡ old
   pub migrates_err : (e : KeepFault) → calls.Migrates (known_of g old) (known_of g new) (Err (unmigrated e))
   migrates_err keep.Fault = inl knows_same
   migrates_err keep.NoMemory = (knows_same, same_last g old new law last)
+
+-- ---- after a migration
+
+module _ {S : Type 0} (g : Ghosts S) (old new : Kept S) (law : IsLawful (state g new.conn)) (kept : IsKept g old) (old_ones : old.is_old ≡ true) (before : HasCleanDisk (state g new.conn) → HasCleanDisk (state g old.conn)) where
+  -- the tables of the first schema from before
+  old_is : HasCleanDisk (state g old.conn) → IsTrue (state g old.conn).is_open → stored (state g old.conn).committed.trees ≡ Old (old_contents (state g old.conn).now.trees)
+  old_is clean opened =
+      let store = subst (λ b. IsStoreDatabase b (state g old.conn).now) old_ones (kept.database clean opened) in
+      ap (λ (b : Database). stored b.trees) (sym (kept.settled clean opened)) ∙ stored_is true (state g old.conn).now store
+
+  pub moved_to : (n : ℕ) → (HasCleanDisk (state g new.conn) → HasMovedAll n (state g old.conn) (state g new.conn)) → IfSome (tables_of (state g new.conn)) (calls.HasMoved n (tables_of (state g old.conn)))
+  moved_to n h = when_known (state g new.conn) _ (λ opened.
+      let clean = law.clean opened in
+      let it = h clean in
+      record {
+        old = old_contents (state g old.conn).now.trees;
+        was = tables_some (state g old.conn) it.was_open ∙ ap Some (old_is (before clean) it.was_open);
+        sound = it.sound;
+        moved = ap (λ (b : Database). stored b.trees) it.committed ∙ it.shown;
+        results = it.results;
+      })
+
+  pub kept_moved : (n : ℕ) → new.is_old ≡ false → new.last ≡ new.conn → new.conn.in_transaction ≡ false → (HasCleanDisk (state g new.conn) → HasMovedAll n (state g old.conn) (state g new.conn)) → IsKept g new
+  kept_moved n current last idle h = record {
+    idle = idle;
+    database = λ clean opened. subst (λ b. IsStoreDatabase b (state g new.conn).now) (sym current) (h clean).database;
+    settled = λ clean opened. sym (h clean).committed;
+    last = λ opened. subst (λ (c : Held S). IsTrue (state g c).is_open × ((state g c).committed ≡ (state g new.conn).committed)) (sym last) (opened, refl);
+    covered = λ clean db left. subst (λ (c : Held S). MayLeave (state g c) (stored db)) (sym last) (record { clean = clean; db = db; left = left; is = refl });
+  }
+
+  pub either_moved : new.last ≡ new.conn → (HasCleanDisk (state g new.conn) → LeavesMoved (state g old.conn) (state g new.conn)) → calls.LeavesEither migrated (known_of g old) (known_of g new)
+  either_moved last h x given =
+      let left : MayLeave (state g new.conn) x = subst (λ (c : Held S). MayLeave (state g c) x) last given in
+      elim (h left.clean left.db left.left) [
+        | inl same ↦ inl (subst (MayLeave (state g old.last)) (sym left.is) (kept.covered (before left.clean) left.db same))
+        | inr after ↦ inr (stored (state g old.conn).committed.trees, tables_some (state g old.conn) after.0, left.is ∙ after.1 ∙ ap migrated (sym (old_is (before left.clean) after.0)))
+      ]
+
+  -- the first bad row of the tables, which are as before
+  pub bad_row : (bad : Table × ℕ) → (HasCleanDisk (state g new.conn) → (old_first_bad (old_rows (old_contents (state g old.conn).now.trees)) ≡ Some bad) × ShowsStill (state g old.conn) (state g new.conn))
+      → IfSome (tables_of (state g new.conn)) (λ s. (tables_of (state g old.conn) ≡ Some s) × (first_unmovable s ≡ Some bad))
+  bad_row bad h = when_known (state g new.conn) _ (λ opened.
+      let clean = law.clean opened in
+      let it = h clean in
+      let still = it.1 opened in
+      let same : stored (state g old.conn).committed.trees ≡ stored (state g new.conn).committed.trees = ap (λ (b : Database). stored b.trees) (sym still.2) in (
+        tables_some (state g old.conn) still.0 ∙ ap Some same,
+        subst (λ s. first_unmovable s ≡ Some bad) (sym (old_is (before clean) still.0) ∙ same) it.0,
+      ))

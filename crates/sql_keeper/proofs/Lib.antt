@@ -23,3 +23,7 @@ pub mod Keyed
 pub mod Adoption
 pub mod Ordered
 pub mod Loading
+pub mod OldResults
+pub mod OldLogs
+pub mod Dropping
+pub mod Moved

@@ -1,5 +1,7 @@
 -- What the queries of a load show is what the contents are.
-use Rattle.std.proofs.Common.{◌≡◌, ◌⊎◌, inl, inr, ℕ, ℤ, Bool, true, List, [], ◌∷◌, map, codes, false, refl, sym, ap, subst, ◌∙◌, arith}
+use Rattle.std.proofs.Common.{◌≡◌, ◌⊎◌, inl, inr, ℕ, ℤ, Bool, true, List, [], ◌∷◌, map, codes, false, None, refl, sym, ap, subst, ◌∙◌, arith}
+use Rattle.std.proofs.lemmas.Bool.{or_left}
+use Rattle.std.specs.List.{list_any}
 use Rattle.std.specs.Cmp.{int_cmp_total}
 use Rattle.std.specs.Cmp.Lexicographic.{nat_list_cmp_total}
 use Rattle.std.specs.FinMap.{entries, int_cmp-IsAntisymmetric, keys}
@@ -25,12 +27,14 @@ use Rattle.keeper_core.specs.declared.tables.CacheRow.{CacheRow}
 use Rattle.keeper_core.specs.declared.tables.InputRow.{InputRow}
 use Rattle.keeper_core.specs.declared.tables.MetaRow.{MetaRow}
 use Rattle.sqlite_keyed.proofs.ListLemmas.{map-map}
+use Rattle.sqlite_rules.specs.Keys.{shares}
 use Rattle.sqlite_rules.specs.Lists.{Has}
 use Rattle.sqlite_rules.proofs.ListLemmas.{all_has}
 use Rattle.sqlite_rules.proofs.PlaceLemmas.{tied_same}
 use Rattle.sqlite_rules.proofs.TableLemmas.{int_is}
 use Rattle.sqlite_tied.specs.Compute.{everything}
-use Rattle.sqlite_value.specs.Keys.{ascending}
+use Rattle.sqlite_schema.specs.Rules.{agree}
+use Rattle.sqlite_value.specs.Keys.{ascending, plain}
 use Rattle.sqlite_value.specs.declared.keys.Key.{Key as SortKey}
 use Rattle.sqlite_value.proofs.OrderLemmas.{then-Equal, value_cmp-Blob, value_cmp-Int, value_cmp-Text}
 use Rattle.keeper_core.specs.declared.tables.CacheKey.{CacheKey}
@@ -43,7 +47,7 @@ use Rattle.sql_keeper.specs.inside.Databases.{IsKeeperDatabase, IsKeyed, IsStore
 use Rattle.sql_keeper.specs.inside.ShownRows.{input_shown, job_shown, meta_shown, result_shown}
 use Rattle.sql_keeper.specs.inside.Steps.{Says}
 use Rattle.sql_keeper.proofs.CacheMap.{agree_keys, cached_is, sharing as sharing_keys}
-use Rattle.sql_keeper.proofs.InputMap.{agree_names, bytes_same, input_is, sharing}
+use Rattle.sql_keeper.proofs.InputMap.{agree_names, bytes_same, input_is}
 use Rattle.sql_keeper.proofs.LogMap.{tie_of}
 use Rattle.sql_keeper.proofs.Ordered.{apart_from, one_each, ordered, reads_entries}
 use Rattle.sql_keeper.proofs.Texts.{input_select_is, meta_select_is, plain_program, simple}
@@ -56,13 +60,21 @@ by i = (col 1 i, ascending Binary)
 
 -- ---- the texts
 
-pub inputs_plain : IsPlain (understood keeper_schema input_select)
+inputs_known : (is_old : Bool) → command_of (understood (schema_of is_old) input_select)
+    ≡ Select (plain_program (record (simple 1 [] (col 1 1 ∷ col 1 2 ∷ [])) { order = (col 1 1, ascending Binary) ∷ [] })) (codes "name" ∷ codes "literal" ∷ [])
 unfolding understood everything
-inputs_plain = (refl, refl)
+inputs_known true = refl
+inputs_known false = input_select_is
 
-inputs_unlisted : reads_listing keeper_schema input_select ≡ false
+pub inputs_plain : (is_old : Bool) → IsPlain (understood (schema_of is_old) input_select)
 unfolding understood everything
-inputs_unlisted = refl
+inputs_plain true = (refl, refl)
+inputs_plain false = (refl, refl)
+
+inputs_unlisted : (is_old : Bool) → reads_listing (schema_of is_old) input_select ≡ false
+unfolding understood everything
+inputs_unlisted true = refl
+inputs_unlisted false = refl
 
 abbrev cache_project : List Term
 cache_project = col 1 1 ∷ col 1 2 ∷ col 1 3 ∷ col 1 4 ∷ col 1 5 ∷ col 1 6 ∷ col 1 7 ∷ col 1 8 ∷ col 1 9 ∷ []
@@ -81,17 +93,20 @@ cache_unlisted : reads_listing keeper_schema cache_select ≡ false
 unfolding understood everything
 cache_unlisted = refl
 
-jobs_is : command_of (understood keeper_schema jobs_select) ≡ Select (plain_program (ordered 5 (col 1 0 ∷ []) (by 0 ∷ []))) (codes "job" ∷ [])
+jobs_is : (is_old : Bool) → command_of (understood (schema_of is_old) jobs_select) ≡ Select (plain_program (ordered 5 (col 1 0 ∷ []) (by 0 ∷ []))) (codes "job" ∷ [])
 unfolding understood everything
-jobs_is = refl
+jobs_is true = refl
+jobs_is false = refl
 
-pub jobs_plain : IsPlain (understood keeper_schema jobs_select)
+pub jobs_plain : (is_old : Bool) → IsPlain (understood (schema_of is_old) jobs_select)
 unfolding understood everything
-jobs_plain = (refl, refl)
+jobs_plain true = (refl, refl)
+jobs_plain false = (refl, refl)
 
-jobs_unlisted : reads_listing keeper_schema jobs_select ≡ false
+jobs_unlisted : (is_old : Bool) → reads_listing (schema_of is_old) jobs_select ≡ false
 unfolding understood everything
-jobs_unlisted = refl
+jobs_unlisted true = refl
+jobs_unlisted false = refl
 
 meta_known : (is_old : Bool) → command_of (understood (schema_of is_old) meta_select) ≡ Select (plain_program (simple 0 [] (col 1 0 ∷ col 1 2 ∷ col 1 3 ∷ []))) (codes "id" ∷ codes "format" ∷ codes "next_job" ∷ [])
 unfolding understood everything
@@ -124,18 +139,28 @@ few_permuted xs ys same (inr one) = one_permutation one.0 ys (subst (λ l. IsPer
 
 -- ---- rows with one key are one row
 
-module _ (db : Trees) (sound : IsDatabase (record { schema = keeper_schema; trees = db })) where
-  one_input : IsKeyed (db 1) → (a b : Row) → Has (db 1) a → Has (db 1) b → name_in a ≡ name_in b → a ≡ b
-  one_input keyed = once nat_list_cmp_total bytes_same name_in literal_in keeper_schema the_inputs (db 1) keyed
-      (λ r s h j e. sharing r s (agree_names r s (input_is db sound r h) (input_is db sound s j) e))
-      (λ r h. keeps_at Unique keeper_schema db the_inputs r (sound.obeys.rules Unique) (inr (inl refl)) h)
+inputs_listed : (is_old : Bool) → Has (schema_of is_old).tables the_inputs
+inputs_listed true = inr (inl refl)
+inputs_listed false = inr (inl refl)
 
+sharing_names : (is_old : Bool) (r s : Row) → agree plain (1 ∷ []) r (1 ∷ []) s ≡ true → list_any (shares None the_inputs s r) (schema_of is_old).indexes ≡ true
+sharing_names true r s h = or_left _ _ h
+sharing_names false r s h = or_left _ _ h
+
+one_input : (is_old : Bool) (db : Trees) → IsDatabase (record { schema = schema_of is_old; trees = db }) → IsKeyed (db 1) → (a b : Row) → Has (db 1) a → Has (db 1) b → name_in a ≡ name_in b → a ≡ b
+one_input is_old db sound keyed =
+    let inputs_are = input_is (schema_of is_old) (inputs_listed is_old) db sound in
+    once nat_list_cmp_total bytes_same name_in literal_in (schema_of is_old) the_inputs (db 1) keyed
+    (λ r s h j e. sharing_names is_old r s (agree_names r s (inputs_are r h) (inputs_are s j) e))
+    (λ r h. keeps_at Unique (schema_of is_old) db the_inputs r (sound.obeys.rules Unique) (inputs_listed is_old) h)
+
+module _ (db : Trees) (sound : IsDatabase (record { schema = keeper_schema; trees = db })) where
   one_result : IsKeyed (db 3) → (a b : Row) → Has (db 3) a → Has (db 3) b → key_in a ≡ key_in b → a ≡ b
   one_result keyed = once key_cmp_total key_cmp_antisymmetric key_in value_in keeper_schema the_cache (db 3) keyed
       (λ r s h j e. sharing_keys r s (agree_keys r s (cached_is db sound r h) (cached_is db sound s j) e))
       (λ r h. keeps_at Unique keeper_schema db the_cache r (sound.obeys.rules Unique) (inr (inr (inl refl))) h)
 
-one_log : (rows : List Row) → IsKeyed rows → (a b : Row) → Has rows a → Has rows b → job_in a ≡ job_in b → a ≡ b
+pub one_log : (rows : List Row) → IsKeyed rows → (a b : Row) → Has rows a → Has rows b → job_in a ≡ job_in b → a ≡ b
 one_log rows keyed a b p q e = tied_same rows a b keyed.rises p q (tie_of rows a b keyed p q e)
 
 -- ---- what is shown of an entry, after what it is sorted by
@@ -161,20 +186,6 @@ module _ (old new : State) (database : IsKeeperDatabase old.now) where
   sound : IsDatabase (record { schema = keeper_schema; trees = old.now.trees })
   sound = subst (λ s. IsDatabase (record { schema = s; trees = old.now.trees })) database.schema database.sound
 
-  abbrev input_query : Program
-  input_query = plain_program (ordered 1 (col 1 1 ∷ col 1 2 ∷ []) (by 1 ∷ []))
-
-  inputs_found : (rows : List Row) → Shown input_select [] old new rows → rows ≡ map (λ e. (input_out e).1) (entries (contents db).inputs)
-  inputs_found rows h =
-      let answers : Answers old.now input_query [] rows = reads_as input_select [] old new keeper_schema database.schema (Select input_query (codes "name" ∷ codes "literal" ∷ [])) input_select_is inputs_plain inputs_unlisted rows h in
-      reads_entries nat_list_cmp_total bytes_same name_in literal_in 1 (col 1 1 ∷ col 1 2 ∷ []) (by 1 ∷ []) input_out old.now rows refl answers
-      (λ r at. let it = input_is db sound r at in λ i. (it.name i ∷ [], it.name i ∷ it.literal i ∷ []))
-      (λ a b. then-Equal _ ∙ value_cmp-Text a.0 b.0)
-      (apart_from nat_list_cmp_total bytes_same name_in literal_in (db 1) (db 1) database.inputs.rises (λ r at. at) (one_input db sound database.inputs))
-
-  pub inputs_loaded : (items : List InputRow) → Says input_shown input_select old new items → items ≡ map input_row (entries (contents db).inputs)
-  inputs_loaded items says = says.2 ∙ ap (map input_shown) (inputs_found says.0 says.1) ∙ map-map input_shown (λ (e : Bytes × Bytes). (input_out e).1) (entries (contents db).inputs)
-
   abbrev result_query : Program
   result_query = plain_program (ordered 3 cache_project (by 1 ∷ by 3 ∷ by 2 ∷ []))
 
@@ -196,21 +207,7 @@ module _ (old new : State) (database : IsKeeperDatabase old.now) where
   pub results_loaded : (items : List CacheRow) → Says result_shown cache_select old new items → items ≡ map cache_row (entries (contents db).cache)
   results_loaded items says = says.2 ∙ ap (map result_shown) (results_found says.0 says.1) ∙ map-map result_shown (λ (e : CacheKey × CacheValue). (result_out e).1) (entries (contents db).cache)
 
-  abbrev job_query : Program
-  job_query = plain_program (ordered 5 (col 1 0 ∷ []) (by 0 ∷ []))
-
-  jobs_found : (rows : List Row) → Shown jobs_select [] old new rows → rows ≡ map (λ e. (job_out e).1) (entries (contents db).logs)
-  jobs_found rows h =
-      let answers : Answers old.now job_query [] rows = reads_as jobs_select [] old new keeper_schema database.schema _ jobs_is jobs_plain jobs_unlisted rows h in
-      reads_entries int_cmp_total int_cmp-IsAntisymmetric job_in literal_in 5 (col 1 0 ∷ []) (by 0 ∷ []) job_out old.now rows refl answers
-      (λ r at. let n = int_is (rowid r) (all_has _ (db 5) r database.logs.ints at) in λ i. (n i ∷ [], n i ∷ []))
-      (λ a b. then-Equal _ ∙ value_cmp-Int a.0 b.0)
-      (apart_from int_cmp_total int_cmp-IsAntisymmetric job_in literal_in (db 5) (db 5) database.logs.rises (λ r at. at) (one_log (db 5) database.logs))
-
-  pub jobs_loaded : (items : List ℤ) → Says job_shown jobs_select old new items → items ≡ keys (contents db).logs
-  jobs_loaded items says = says.2 ∙ ap (map job_shown) (jobs_found says.0 says.1) ∙ map-map job_shown (λ (e : ℤ × Bytes). (job_out e).1) (entries (contents db).logs)
-
--- ---- the rows of meta, under either schema
+-- ---- the tables that both schemas have
 
 module _ (is_old : Bool) (old new : State) (database : IsStoreDatabase is_old old.now) where
   abbrev metas : List Row
@@ -218,6 +215,34 @@ module _ (is_old : Bool) (old new : State) (database : IsStoreDatabase is_old ol
 
   sound_store : IsDatabase (record { schema = schema_of is_old; trees = old.now.trees })
   sound_store = subst (λ s. IsDatabase (record { schema = s; trees = old.now.trees })) database.schema database.sound
+
+  abbrev input_query : Program
+  input_query = plain_program (ordered 1 (col 1 1 ∷ col 1 2 ∷ []) (by 1 ∷ []))
+
+  inputs_found : (rows : List Row) → Shown input_select [] old new rows → rows ≡ map (λ e. (input_out e).1) (entries (contents old.now.trees).inputs)
+  inputs_found rows h =
+      let answers : Answers old.now input_query [] rows = reads_as input_select [] old new (schema_of is_old) database.schema (Select input_query (codes "name" ∷ codes "literal" ∷ [])) (inputs_known is_old) (inputs_plain is_old) (inputs_unlisted is_old) rows h in
+      reads_entries nat_list_cmp_total bytes_same name_in literal_in 1 (col 1 1 ∷ col 1 2 ∷ []) (by 1 ∷ []) input_out old.now rows refl answers
+      (λ r at. let it = input_is (schema_of is_old) (inputs_listed is_old) old.now.trees sound_store r at in λ i. (it.name i ∷ [], it.name i ∷ it.literal i ∷ []))
+      (λ a b. then-Equal _ ∙ value_cmp-Text a.0 b.0)
+      (apart_from nat_list_cmp_total bytes_same name_in literal_in (old.now.trees 1) (old.now.trees 1) database.inputs.rises (λ r at. at) (one_input is_old old.now.trees sound_store database.inputs))
+
+  pub inputs_loaded : (items : List InputRow) → Says input_shown input_select old new items → items ≡ map input_row (entries (contents old.now.trees).inputs)
+  inputs_loaded items says = says.2 ∙ ap (map input_shown) (inputs_found says.0 says.1) ∙ map-map input_shown (λ (e : Bytes × Bytes). (input_out e).1) (entries (contents old.now.trees).inputs)
+
+  abbrev job_query : Program
+  job_query = plain_program (ordered 5 (col 1 0 ∷ []) (by 0 ∷ []))
+
+  jobs_found : (rows : List Row) → Shown jobs_select [] old new rows → rows ≡ map (λ e. (job_out e).1) (entries (contents old.now.trees).logs)
+  jobs_found rows h =
+      let answers : Answers old.now job_query [] rows = reads_as jobs_select [] old new (schema_of is_old) database.schema _ (jobs_is is_old) (jobs_plain is_old) (jobs_unlisted is_old) rows h in
+      reads_entries int_cmp_total int_cmp-IsAntisymmetric job_in literal_in 5 (col 1 0 ∷ []) (by 0 ∷ []) job_out old.now rows refl answers
+      (λ r at. let n = int_is (rowid r) (all_has _ (old.now.trees 5) r database.logs.ints at) in λ i. (n i ∷ [], n i ∷ []))
+      (λ a b. then-Equal _ ∙ value_cmp-Int a.0 b.0)
+      (apart_from int_cmp_total int_cmp-IsAntisymmetric job_in literal_in (old.now.trees 5) (old.now.trees 5) database.logs.rises (λ r at. at) (one_log (old.now.trees 5) database.logs))
+
+  pub jobs_loaded : (items : List ℤ) → Says job_shown jobs_select old new items → items ≡ keys (contents old.now.trees).logs
+  jobs_loaded items says = says.2 ∙ ap (map job_shown) (jobs_found says.0 says.1) ∙ map-map job_shown (λ (e : ℤ × Bytes). (job_out e).1) (entries (contents old.now.trees).logs)
 
   abbrev meta_project : List Term
   meta_project = col 1 0 ∷ col 1 2 ∷ col 1 3 ∷ []

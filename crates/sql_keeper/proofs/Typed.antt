@@ -32,7 +32,7 @@ typed_at at (d ∷ cs) (v ∷ vs) t (suc i) c is there = typed_at (at + 1) cs vs
 pub typed_column : (cs : List Column) (r : Row) → are_typed None 0 cs (drop 1 r) ≡ true → (i : ℕ) (c : Column) → slice_get cs i ≡ Some c → is_null (column r (suc i)) ≡ false → suits c (column r (suc i)) ≡ true
 typed_column cs r t i c is there = rw next_column (typed_at 0 cs (drop 1 r) t i c is (rw next_column at there))
 
-abbrev present : ℕ → Row → Bool
+abbrev pub present : ℕ → Row → Bool
 present i r = not (is_null (column r i))
 
 module _ (db : Trees) (sound : IsDatabase (record { schema = keeper_schema; trees = db })) (r : Row) (h : Has (db 3) r) where

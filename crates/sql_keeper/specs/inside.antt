@@ -7,4 +7,5 @@ pub mod Keeping
 pub mod Indexes
 pub mod Fresh
 pub mod Adopting
+pub mod Moving
 pub mod Calls

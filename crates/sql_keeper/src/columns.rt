@@ -4,9 +4,11 @@ ghost use Rattle.sqlite.specs.Edit.{id_in};
 ghost use Rattle.sqlite.specs.Order.{bytes, column};
 ghost use Rattle.sqlite.specs.declared.types.Value.{Value as SqlValue};
 ghost use Rattle.sqlite.specs.declared.types.Value.TheVariants.{Text};
-ghost use Rattle.sql_keeper.specs.inside.ShownRows.{input_shown, job_shown, meta_shown, result_shown};
+ghost use Rattle.sql_keeper.specs.inside.ShownRows.{input_shown, job_shown, log_row_shown};
+ghost use Rattle.sql_keeper.specs.inside.ShownRows.{meta_shown};
+ghost use Rattle.sql_keeper.specs.inside.ShownRows.{old_result_shown, result_shown};
 
-use keeper_core::{CacheRow, InputRow, MetaRow};
+use keeper_core::{CacheRow, InputRow, MetaRow, OldCacheRow};
 use sqlite::types::{FromSql, FromSqlError, ValueRef};
 use sqlite::{Error, Row};
 use std::alloc::Global;
@@ -109,6 +111,41 @@ impl FromRow for CacheRow {
             finished: number(row, 6)?,
             job: number(row, 7)?,
             rebuild: number(row, 8)?,
+        })
+    }
+}
+
+impl FromRow for OldCacheRow {
+    ghost says = { old_result_shown };
+
+    fn from_row(row: &Row) -> Result<OldCacheRow, Error> {
+        Ok(OldCacheRow {
+            op: text(row, 0)?,
+            ckey: text(row, 1)?,
+            cvalue: text(row, 2)?,
+            fine: number(row, 3)?,
+            result: text(row, 4)?,
+            finished: number(row, 5)?,
+            job: number(row, 6)?,
+            rebuild: number(row, 7)?,
+        })
+    }
+}
+
+/// A log with its job's number.
+#[derive(Drop)]
+pub(crate) struct LogRow {
+    pub job: i64,
+    pub output: ListOf<u8>,
+}
+
+impl FromRow for LogRow {
+    ghost says = { log_row_shown };
+
+    fn from_row(row: &Row) -> Result<LogRow, Error> {
+        Ok(LogRow {
+            job: number(row, 0)?,
+            output: blob(row, 1)?,
         })
     }
 }

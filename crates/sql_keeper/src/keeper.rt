@@ -1,12 +1,14 @@
 //! A keeper over a connection.
-ghost use Rattle.std.specs.Prelude.{◌≡◌, IfOk};
+ghost use Rattle.std.specs.Prelude.{◌≡◌, IfOk, IsTrue};
 ghost use Rattle.sqlite.specs.Held.{state};
-ghost use Rattle.keeper_core.specs.KeeperCalls.{HasCause};
+ghost use Rattle.keeper_core.specs.EitherSchema.{migrated};
+ghost use Rattle.keeper_core.specs.KeeperCalls.{HasCause, LeavesEither, MigrateCause, Migrates};
 ghost use Rattle.sql_keeper.specs.inside.Keeping.{Refuses, unmigrated};
 ghost use Rattle.sql_keeper.specs.Kept.{AdoptsLast, LeavesWithin, known_of};
 
 use crate::adopting::adopted;
 use crate::commits::commit;
+use crate::moving::{Moved, move_tables};
 use crate::reads::{load, log_of, says_current};
 use core_rules::Delta;
 use keeper_core::{KeepFault, Keeper, MigrateFault, Migrated, Table, Tables};
@@ -94,6 +96,32 @@ fn unmigrated(fault: KeepFault) -> MigrateFault
     }
 }
 
+impl<S: Alter> SqlKeeper<S> {
+    /// Moves tables of the first schema under the second, as one transaction.
+    fn migrate_old(&mut self, alloc: Global) -> Result<Migrated, MigrateFault>
+        requires { IsTrue self.old.is_old }
+        ensures tables { Migrates (known_of S.Store self.old) (known_of S.Store self.new) result }
+        ensures stop { LeavesEither migrated
+            (known_of S.Store self.old) (known_of S.Store self.new) }
+        ensures cause { MigrateCause self.old.faults self.new.faults result }
+    {
+        match move_tables(&mut self.conn, alloc) {
+            Ok(Moved::Rows(count)) => {
+                self.last = Snapshot::of(&self.conn);
+                self.is_old = false;
+                Ok(Migrated::Rows(count))
+            }
+            Ok(Moved::BadRow(table, number)) => Err(MigrateFault::BadRow(table, number)),
+            Err(Error::SqliteFailure(ErrorCode::OutOfMemory)) => Err(MigrateFault::NoMemory),
+            Err(_) => {
+                self.last = Snapshot::of(&self.conn);
+                self.faults = self.faults.saturating_add(1);
+                Err(MigrateFault::Fault)
+            }
+        }
+    }
+}
+
 impl<S: Alter> Keeper for SqlKeeper<S> {
     ghost known = { known_of S.Store };
 
@@ -136,8 +164,7 @@ impl<S: Alter> Keeper for SqlKeeper<S> {
 
     fn migrate(&mut self, alloc: Global) -> Result<Migrated, MigrateFault> {
         if self.is_old {
-            self.faults = self.faults.saturating_add(1);
-            return Err(MigrateFault::Fault);
+            return self.migrate_old(alloc);
         }
         match says_current(&mut self.conn, alloc) {
             Ok(true) => Ok(Migrated::Already),

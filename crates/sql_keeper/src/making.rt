@@ -3,7 +3,7 @@ ghost use Rattle.std.specs.Prelude.{◌≡◌, false};
 ghost use Rattle.sql_keeper.specs.inside.Schemas.{keeper_schema, no_schema};
 ghost use Rattle.sql_keeper.specs.inside.Fresh.{cache_schema, inputs_schema, meta_schema};
 ghost use Rattle.sql_keeper.specs.inside.Calls.{AddsTable, CommitsNothing, Fills, IsBlankIn};
-ghost use Rattle.sql_keeper.specs.inside.Calls.{IsMakingIn, OnceMade, WasClean};
+ghost use Rattle.sql_keeper.specs.inside.Calls.{IsMakingIn, KeepsCommitIn, OnceMade, Undoes, WasClean};
 
 use sqlite::{Alter, Connection, Error, Transaction};
 
@@ -11,6 +11,7 @@ fn make_meta<S: Alter>(tx: &mut Transaction<'_, S>) -> Result<usize, Error>
     requires { IsMakingIn S.Store no_schema tx.old.conn.now }
     ensures same_reference { tx.new.conn.ghost_name ≡ tx.old.conn.ghost_name }
     ensures made { AddsTable S.Store meta_schema tx.old.conn.now tx.new.conn.now result }
+    ensures undone { Undoes S.Store tx.old.conn.now tx.new.conn.now result }
     ensures survives { CommitsNothing S.Store tx.old.conn.now tx.new.conn.now }
 {
     tx.execute(
@@ -23,6 +24,7 @@ fn make_inputs<S: Alter>(tx: &mut Transaction<'_, S>) -> Result<usize, Error>
     requires { IsMakingIn S.Store meta_schema tx.old.conn.now }
     ensures same_reference { tx.new.conn.ghost_name ≡ tx.old.conn.ghost_name }
     ensures made { AddsTable S.Store inputs_schema tx.old.conn.now tx.new.conn.now result }
+    ensures undone { Undoes S.Store tx.old.conn.now tx.new.conn.now result }
     ensures survives { CommitsNothing S.Store tx.old.conn.now tx.new.conn.now }
 {
     tx.execute(
@@ -35,6 +37,7 @@ fn make_cache<S: Alter>(tx: &mut Transaction<'_, S>) -> Result<usize, Error>
     requires { IsMakingIn S.Store inputs_schema tx.old.conn.now }
     ensures same_reference { tx.new.conn.ghost_name ≡ tx.old.conn.ghost_name }
     ensures made { AddsTable S.Store cache_schema tx.old.conn.now tx.new.conn.now result }
+    ensures undone { Undoes S.Store tx.old.conn.now tx.new.conn.now result }
     ensures survives { CommitsNothing S.Store tx.old.conn.now tx.new.conn.now }
 {
     tx.execute(
@@ -47,6 +50,7 @@ fn make_logs<S: Alter>(tx: &mut Transaction<'_, S>) -> Result<usize, Error>
     requires { IsMakingIn S.Store cache_schema tx.old.conn.now }
     ensures same_reference { tx.new.conn.ghost_name ≡ tx.old.conn.ghost_name }
     ensures made { AddsTable S.Store keeper_schema tx.old.conn.now tx.new.conn.now result }
+    ensures undone { Undoes S.Store tx.old.conn.now tx.new.conn.now result }
     ensures survives { CommitsNothing S.Store tx.old.conn.now tx.new.conn.now }
 {
     tx.execute(
@@ -60,9 +64,26 @@ fn fill_meta<S: Alter>(tx: &mut Transaction<'_, S>) -> Result<usize, Error>
     requires { IsMakingIn S.Store keeper_schema tx.old.conn.now }
     ensures same_reference { tx.new.conn.ghost_name ≡ tx.old.conn.ghost_name }
     ensures filled { Fills S.Store tx.old.conn.now tx.new.conn.now result }
+    ensures undone { Undoes S.Store tx.old.conn.now tx.new.conn.now result }
     ensures survives { CommitsNothing S.Store tx.old.conn.now tx.new.conn.now }
 {
     tx.execute("INSERT INTO meta VALUES (1, 2, 1)", &[])
+}
+
+/// Makes the tables, and what a fresh store has in them, inside a transaction.
+pub(crate) fn make_all<S: Alter>(tx: &mut Transaction<'_, S>) -> Result<(), Error>
+    requires { IsMakingIn S.Store no_schema tx.old.conn.now }
+    ensures same_reference { tx.new.conn.ghost_name ≡ tx.old.conn.ghost_name }
+    ensures filled { Fills S.Store tx.old.conn.now tx.new.conn.now result }
+    ensures kept { KeepsCommitIn S.Store tx.old.conn.now tx.new.conn.now }
+    ensures survives { CommitsNothing S.Store tx.old.conn.now tx.new.conn.now }
+{
+    make_meta(tx)?;
+    make_inputs(tx)?;
+    make_cache(tx)?;
+    make_logs(tx)?;
+    fill_meta(tx)?;
+    Ok(())
 }
 
 /// Makes the tables, and what a fresh store has in them, as one.
@@ -74,10 +95,6 @@ pub(crate) fn make_tables<S: Alter>(conn: &mut Connection<S>) -> Result<(), Erro
     ensures clean { WasClean S.Store conn.old conn.new }
 {
     let mut tx = conn.transaction();
-    make_meta(&mut tx)?;
-    make_inputs(&mut tx)?;
-    make_cache(&mut tx)?;
-    make_logs(&mut tx)?;
-    fill_meta(&mut tx)?;
+    make_all(&mut tx)?;
     tx.commit()
 }

@@ -56,7 +56,7 @@ fn read_output<S: Alter>(
 }
 
 /// What the rows say that a query shows.
-fn read_all<T: FromRow, S: Alter>(
+pub(crate) fn read_all<T: FromRow, S: Alter>(
     tx: &mut Transaction<'_, S>,
     alloc: Global,
     is_old: bool,
@@ -77,7 +77,7 @@ fn read_all<T: FromRow, S: Alter>(
 }
 
 /// The rows of `meta`.
-fn read_meta<S: Alter>(
+pub(crate) fn read_meta<S: Alter>(
     tx: &mut Transaction<'_, S>,
     alloc: Global,
     is_old: bool,
@@ -93,21 +93,22 @@ fn read_meta<S: Alter>(
 }
 
 /// The inputs by name.
-fn read_inputs<S: Alter>(
+pub(crate) fn read_inputs<S: Alter>(
     tx: &mut Transaction<'_, S>,
     alloc: Global,
+    is_old: bool,
 ) -> Result<ListOf<InputRow>, Error>
-    requires { IsReadyIn S.Store tx.old.conn.now }
+    requires { IsReadyForIn S.Store is_old tx.old.conn.now }
     ensures same_reference { tx.new.conn.ghost_name ≡ tx.old.conn.ghost_name }
     ensures rows { ReadsAs S.Store input_rows tx.old.conn.now tx.new.conn.now result }
-    ensures same { StaysIn S.Store false tx.old.conn.now tx.new.conn.now result }
+    ensures same { StaysIn S.Store is_old tx.old.conn.now tx.new.conn.now result }
     ensures undone { Undoes S.Store tx.old.conn.now tx.new.conn.now result }
     ensures survives { CommitsNothing S.Store tx.old.conn.now tx.new.conn.now }
 {
     read_all(
         tx,
         alloc,
-        false,
+        is_old,
         "SELECT name, literal FROM inputs ORDER BY name",
     )
 }
@@ -133,15 +134,19 @@ fn read_results<S: Alter>(
 }
 
 /// The numbers of the jobs that have a log.
-fn read_jobs<S: Alter>(tx: &mut Transaction<'_, S>, alloc: Global) -> Result<ListOf<i64>, Error>
-    requires { IsReadyIn S.Store tx.old.conn.now }
+pub(crate) fn read_jobs<S: Alter>(
+    tx: &mut Transaction<'_, S>,
+    alloc: Global,
+    is_old: bool,
+) -> Result<ListOf<i64>, Error>
+    requires { IsReadyForIn S.Store is_old tx.old.conn.now }
     ensures same_reference { tx.new.conn.ghost_name ≡ tx.old.conn.ghost_name }
     ensures rows { ReadsAs S.Store job_numbers tx.old.conn.now tx.new.conn.now result }
-    ensures same { StaysIn S.Store false tx.old.conn.now tx.new.conn.now result }
+    ensures same { StaysIn S.Store is_old tx.old.conn.now tx.new.conn.now result }
     ensures undone { Undoes S.Store tx.old.conn.now tx.new.conn.now result }
     ensures survives { CommitsNothing S.Store tx.old.conn.now tx.new.conn.now }
 {
-    read_all(tx, alloc, false, "SELECT job FROM logs ORDER BY job")
+    read_all(tx, alloc, is_old, "SELECT job FROM logs ORDER BY job")
 }
 
 /// Whether there is one row of `meta`, and it has the format of the second schema.
@@ -178,9 +183,9 @@ fn read_rest<S: Alter>(
     ensures kept { KeepsCommitIn S.Store tx.old.conn.now tx.new.conn.now }
     ensures survives { CommitsNothing S.Store tx.old.conn.now tx.new.conn.now }
 {
-    let inputs = read_inputs(tx, alloc)?;
+    let inputs = read_inputs(tx, alloc, false)?;
     let cache = read_results(tx, alloc)?;
-    let logs = read_jobs(tx, alloc)?;
+    let logs = read_jobs(tx, alloc, false)?;
     Ok(Tables {
         meta,
         inputs,

@@ -13,15 +13,19 @@ use Rattle.core_rules.specs.declared.done.Delta.{Delta}
 use Rattle.keeper_core.specs.declared.tables.CacheRow.{CacheRow}
 use Rattle.keeper_core.specs.declared.tables.InputRow.{InputRow}
 use Rattle.keeper_core.specs.declared.tables.MetaRow.{MetaRow}
-use Rattle.keeper_core.specs.declared.stored.Stored.{Stored}
+use Rattle.keeper_core.specs.declared.tables.OldCacheRow.{OldCacheRow}
 use Rattle.keeper_core.specs.declared.tables.Tables.{Tables}
 use Rattle.keeper_core.specs.declared.stored.Stored.TheVariants.{Current}
 use Rattle.keeper_core.specs.Commits.{with_delta}
 use Rattle.keeper_core.specs.EitherSchema.{loaded_of}
-use Rattle.keeper_core.specs.Contents.{Bytes, Contents, cache_row, has_format, input_row, log_in}
-use Rattle.sql_keeper.specs.Rows.{contents, stored, stored_as}
+use Rattle.keeper_core.specs.Contents.{Bytes, Contents, OldContents, cache_row, has_format, input_row, log_in, old_cache_row}
+use Rattle.sql_keeper.specs.Rows.{contents, old_contents, stored, stored_as}
 use Rattle.sql_keeper.specs.inside.Adopting.{IsAdopted}
 use Rattle.sql_keeper.specs.inside.Databases.{AreKeyed, IsStoreDatabase}
+use Rattle.sql_keeper.specs.declared.columns.LogRow.{LogRow}
+use Rattle.sql_keeper.specs.declared.moving.Moved.{Moved}
+use Rattle.sql_keeper.specs.inside.ShownRows.{log_row}
+use Rattle.sql_keeper.specs.inside.Moving.{DropsTable, HasMovedAs, IsDropping, LeavesMoved, MovesAs, SparesIfBad}
 use Rattle.sql_keeper.specs.inside.Fresh.{HasMade, IsBlank, IsMaking, MakesFresh, MakesTable}
 use Rattle.sql_keeper.specs.inside.Steps.{HasCommitted, IsReadyFor, IsUndone, LeavesEither, LeavesNoMore, Makes, Says, Stays}
 
@@ -55,6 +59,14 @@ output_at job t = get t.logs job
 abbrev pub log_at : ℕ → Contents → Option Bytes
 log_at job t = log_in t.logs job
 
+-- the results of the first schema by operation and key
+abbrev pub old_result_rows : OldContents → List OldCacheRow
+old_result_rows t = map old_cache_row (entries t.cache)
+
+-- the outputs by job, as rows
+abbrev pub log_rows : OldContents → List LogRow
+log_rows t = map log_row (entries t.logs)
+
 -- whether there is one row of meta, of the second schema
 abbrev pub says_second : Contents → Bool
 says_second t = has_format (pos 2) t.meta
@@ -77,6 +89,10 @@ module _ {S : Type 0} (g : Ghosts S) where
   -- it has these tables, all empty
   abbrev pub IsMakingIn : Schema → Held S → Type 0
   IsMakingIn made h = HasCleanDisk (state g h) → IsMaking made (state g h)
+
+  -- it has the tables of this schema
+  abbrev pub IsDroppingIn : Schema → Held S → Type 0
+  IsDroppingIn tables h = HasCleanDisk (state g h) → IsDropping tables (state g h)
 
   -- it has no table
   abbrev pub IsBlankIn : Held S → Type 0
@@ -120,6 +136,10 @@ module _ {S : Type 0} (g : Ghosts S) where
   abbrev pub AddsTable : {T : Type 0} → Schema → Held S → Held S → Result T Error → Type 0
   AddsTable made old new result = HasCleanDisk (state g new) → OnOk result (MakesTable made (state g old) (state g new))
 
+  -- Ok dropped a table, so that this schema is left
+  abbrev pub DropsTableIn : {T : Type 0} → Schema → Held S → Held S → Result T Error → Type 0
+  DropsTableIn left old new result = HasCleanDisk (state g new) → OnOk result (DropsTable left (state g old) (state g new))
+
   -- Ok made the contents fresh
   abbrev pub Fills : {T : Type 0} → Held S → Held S → Result T Error → Type 0
   Fills old new result = HasCleanDisk (state g new) → OnOk result (MakesFresh (state g old) (state g new))
@@ -136,13 +156,29 @@ module _ {S : Type 0} (g : Ghosts S) where
   abbrev pub ReadsAs : {T : Type 0} → (Contents → T) → Held S → Held S → Result T Error → Type 0
   ReadsAs part old new result = HasCleanDisk (state g new) → IfOk result (λ x. x ≡ part (contents (state g old).now.trees))
 
-  -- what was read is this of what the tables of a schema show
-  abbrev pub ReadsStored : {T : Type 0} → Bool → (Stored → T) → Held S → Held S → Result T Error → Type 0
-  ReadsStored is_old part old new result = HasCleanDisk (state g new) → IfOk result (λ x. x ≡ part (stored_as is_old (state g old).now.trees))
+  -- what was read is this part of the contents of the first schema
+  abbrev pub ReadsOld : {T : Type 0} → (OldContents → T) → Held S → Held S → Result T Error → Type 0
+  ReadsOld part old new result = HasCleanDisk (state g new) → IfOk result (λ x. x ≡ part (old_contents (state g old).now.trees))
 
   -- what was loaded is what the tables of a schema show
   abbrev pub LoadsStored : Bool → Held S → Held S → Result Tables Error → Type 0
   LoadsStored is_old old new result = HasCleanDisk (state g new) → IfOk result (λ tables. loaded_of (stored_as is_old (state g old).now.trees) ≡ Some tables)
+
+  -- Ok moved all rows, or names the first bad one
+  abbrev pub MovesIn : Held S → Held S → Result Moved Error → Type 0
+  MovesIn old new result = HasCleanDisk (state g new) → IfOk result (MovesAs (state g old) (state g new))
+
+  -- Ok moved all rows and committed that, or names the first bad one
+  abbrev pub OnceMoved : Held S → Held S → Result Moved Error → Type 0
+  OnceMoved old new result = HasCleanDisk (state g new) → IfOk result (HasMovedAs (state g old) (state g new))
+
+  -- a stop leaves what it could leave before, or the moved tables
+  abbrev pub LeavesMovedIn : Held S → Held S → Type 0
+  LeavesMovedIn old new = HasCleanDisk (state g new) → LeavesMoved (state g old) (state g new)
+
+  -- if a bad row is named, a stop leaves nothing that it couldn't leave before
+  abbrev pub SparesBadRow : Held S → Held S → Result Moved Error → Type 0
+  SparesBadRow old new result = HasCleanDisk (state g new) → IfOk result (SparesIfBad (state g old) (state g new))
 
   -- nothing was committed
   abbrev pub KeepsCommitIn : Held S → Held S → Type 0

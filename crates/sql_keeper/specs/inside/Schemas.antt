@@ -207,6 +207,14 @@ input_select = codes "SELECT name, literal FROM inputs ORDER BY name"
 abbrev pub cache_select : List ℕ
 cache_select = codes "SELECT op, khash, ckey, cvalue, fine, result, finished, job, rebuild FROM cache2 ORDER BY op, ckey, khash"
 
+-- the results of the first schema by operation and key
+abbrev pub old_cache_select : List ℕ
+old_cache_select = codes "SELECT op, ckey, cvalue, fine, result, finished, job, rebuild FROM cache ORDER BY op, ckey"
+
+-- the outputs by job
+abbrev pub logs_select : List ℕ
+logs_select = codes "SELECT job, output FROM logs ORDER BY job"
+
 -- the jobs that have an output
 abbrev pub jobs_select : List ℕ
 jobs_select = codes "SELECT job FROM logs ORDER BY job"

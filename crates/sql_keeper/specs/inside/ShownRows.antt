@@ -5,7 +5,9 @@ use Rattle.sqlite.specs.Edit.{id_in}
 use Rattle.keeper_core.specs.declared.tables.CacheRow.{CacheRow}
 use Rattle.keeper_core.specs.declared.tables.InputRow.{InputRow}
 use Rattle.keeper_core.specs.declared.tables.MetaRow.{MetaRow}
+use Rattle.keeper_core.specs.declared.tables.OldCacheRow.{OldCacheRow}
 use Rattle.keeper_core.specs.Contents.{Bytes}
+use Rattle.sql_keeper.specs.declared.columns.LogRow.{LogRow}
 
 -- the first column of the first row, if there is one
 abbrev pub output_of : List Row → Option Bytes
@@ -34,6 +36,27 @@ result_shown r = record {
   rebuild = id_in (column r 8);
 }
 
+-- a result of the first schema
+abbrev pub old_result_shown : Row → OldCacheRow
+old_result_shown r = record {
+  op = bytes (column r 0);
+  ckey = bytes (column r 1);
+  cvalue = bytes (column r 2);
+  fine = id_in (column r 3);
+  result = bytes (column r 4);
+  finished = id_in (column r 5);
+  job = id_in (column r 6);
+  rebuild = id_in (column r 7);
+}
+
 -- the number of a job
 abbrev pub job_shown : Row → ℤ
 job_shown r = id_in (column r 0)
+
+-- an output with its job
+abbrev pub log_row_shown : Row → LogRow
+log_row_shown r = record { job = id_in (column r 0); output = bytes (column r 1) }
+
+-- an entry of logs as a row
+abbrev pub log_row : ℤ × Bytes → LogRow
+log_row e = record { job = e.0; output = e.1 }

@@ -10,8 +10,8 @@ use Rattle.sql_keeper.specs.inside.Keeping.{unmigrated}
 use Rattle.sql_keeper.proofs.Knowing.{Reads, kept_still, knows_that, is_sure, lawful, migrates_err, same_last}
 use Rattle.sql_keeper.proofs.keeper.SqlKeeperKeeper.migrate.Goals as goal
 
-pub invariant_of-self-in-Ok-true : goal.invariant_of-self-in-Ok-true
-invariant_of-self-in-Ok-true g c =
+pub invariant_of-self : goal.invariant_of-self
+invariant_of-self g c =
     let i = c.self.inside in
     let old : Kept g.row.S.Denot = record { conn = i.conn; is_old = i.is_old; faults = i.faults; last = i.last.value } in
     let new : Kept g.row.S.Denot = record { conn = c.says_current.new.conn; is_old = i.is_old; faults = i.faults; last = i.last.value } in
