@@ -1,5 +1,5 @@
 -- What the texts that drop the tables do.
-use Rattle.std.proofs.Common.{◌≡◌, ℕ, Bool, if◌then◌else◌, List, [], Option, Some, None, Ok, Err, Result, OnOk, refl, sym, ap, subst, ◌∙◌, slice_get}
+use Rattle.std.proofs.Common.{◌≡◌, ℕ, if◌then◌else◌, List, [], Option, Some, None, Ok, Err, Result, OnOk, refl, ap, subst, ◌∙◌, slice_get}
 use Rattle.sqlite.specs.declared.error.Error.{Error}
 use Rattle.sqlite.specs.Table.{Table}
 use Rattle.sqlite.specs.Schema.{Schema}

@@ -38,7 +38,6 @@ use Rattle.sqlite.specs.Edit.{id_in, without_all, put_all}
 use Rattle.sqlite_rules.specs.Calls.{ids_of}
 use Rattle.sqlite_schema.specs.Rules.{are_typed, are_present}
 use Rattle.sql_keeper.proofs.Texts.{plain_program, simple, equals}
-use Rattle.sql_keeper.proofs.Maps.{equal_is}
 
 -- where the check passes, the rowid is 1
 checked_one : (n : ℤ) → is_false (binary (Rattle.sqlite_sql.specs.declared.ops.BinaryOp.TheVariants.Compare Rattle.sqlite_sql.specs.declared.ops.CompareOp.TheVariants.Eq Binary) (Int n) (Int (pos 1))) ≡ false

@@ -4,15 +4,11 @@ use Rattle.std.specs.Cmp.{IsTotalOrder, int_cmp_total}
 use Rattle.std.specs.Cmp.Lexicographic.{nat_list_cmp_total}
 use Rattle.std.specs.FinMap.{FinMap, IsAntisymmetric, empty, entries, entries_sorted, find, from_entries, get, get-empty, get-entries, get-from_entries, get-insert, insert, int_cmp-IsAntisymmetric, same_map}
 use Rattle.std.specs.List.{AllByRecursion}
-use Rattle.std.specs.Ordering.{eq_by_cmp, int_cmp, int_eq, ordering_then}
-use Rattle.std.proofs.lemmas.Bool.{and_parts}
+use Rattle.std.specs.Ordering.{eq_by_cmp, int_cmp, ordering_then}
 use Rattle.sqlite.specs.Tree.{IsAscending}
-use Rattle.keeper_core.specs.declared.tables.CacheKey.{CacheKey}
 use Rattle.keeper_core.specs.declared.tables.CacheValue.{CacheValue}
-use Rattle.keeper_core.specs.declared.tables.InputRow.{InputRow}
 use Rattle.keeper_core.specs.declared.tables.MetaRow.{MetaRow}
 use Rattle.keeper_core.specs.declared.tables.OldCacheKey.{OldCacheKey}
-use Rattle.keeper_core.specs.declared.tables.OldCacheRow.{OldCacheRow}
 use Rattle.keeper_core.specs.Contents.{Bytes, Contents, OldContents, fresh, input_row, old_rows, key_cmp, key_cmp_total, old_cache_row, old_key_cmp}
 use Rattle.keeper_core.specs.Migrations.{hashed, moved, with_format, with_hash}
 use Rattle.sqlite.specs.Edit.{id_in}

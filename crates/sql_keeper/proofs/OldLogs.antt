@@ -12,7 +12,7 @@ use Rattle.sqlite.specs.Listing.{reads_listing, understood}
 use Rattle.sqlite.specs.Query.{Output}
 use Rattle.sqlite.specs.State.{Shown, State}
 use Rattle.sqlite.specs.Term.{Term, col}
-use Rattle.sqlite.specs.Tree.{Trees, rowid}
+use Rattle.sqlite.specs.Tree.{rowid}
 use Rattle.sqlite.proofs.Callers.{IsPlain, command_of, reads_as}
 use Rattle.sqlite_schema.specs.Rules.{are_present, are_typed}
 use Rattle.sqlite_schema.specs.declared.program.Program.{Program}

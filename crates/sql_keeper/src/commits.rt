@@ -3,11 +3,11 @@ ghost use Rattle.std.specs.Prelude.{◌≡◌, IfSome, false};
 ghost use Rattle.keeper_core.specs.Commits.{Fits, IsCommittable, flag, with_delta};
 ghost use Rattle.sql_keeper.specs.inside.Steps.{with_put_in, with_log_in, with_input_in};
 ghost use Rattle.sql_keeper.specs.inside.Steps.{with_void_in};
-ghost use Rattle.sql_keeper.specs.inside.Calls.{CommitsNothing, FailsToCommit, HasDatabase, HasStore};
-ghost use Rattle.sql_keeper.specs.inside.Calls.{IsInside, IsReadyIn, IsSettled, KeepsCommitIn};
-ghost use Rattle.sql_keeper.specs.inside.Calls.{LeavesEitherIn, MakesIn, MakesShown, OnceCommitted};
-ghost use Rattle.sql_keeper.specs.inside.Calls.{ShowsCommitted, SparesIn, Steps};
-ghost use Rattle.sql_keeper.specs.inside.Calls.{Undoes, WasClean, WasOpen};
+ghost use Rattle.sql_keeper.specs.inside.Calls.{CommitsNothing, FailsToCommit, HasDatabase};
+ghost use Rattle.sql_keeper.specs.inside.Calls.{HasStore, IsInside, IsReadyIn, IsSettled};
+ghost use Rattle.sql_keeper.specs.inside.Calls.{KeepsCommitIn, LeavesEitherIn, MakesIn};
+ghost use Rattle.sql_keeper.specs.inside.Calls.{MakesShown, OnceCommitted, ShowsCommitted};
+ghost use Rattle.sql_keeper.specs.inside.Calls.{SparesIn, Steps, Undoes, WasClean, WasOpen};
 
 use crate::statements::{Texts, add_log, number, put_input, put_result, touch, void_key};
 use core_rules::Delta;

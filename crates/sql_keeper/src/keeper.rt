@@ -2,7 +2,7 @@
 ghost use Rattle.std.specs.Prelude.{◌≡◌, IfOk, IsTrue};
 ghost use Rattle.sqlite.specs.Held.{state};
 ghost use Rattle.keeper_core.specs.EitherSchema.{migrated};
-ghost use Rattle.keeper_core.specs.KeeperCalls.{HasCause, LeavesEither, MigrateCause, Migrates};
+ghost use Rattle.keeper_core.specs.KeeperCalls.{LeavesEither, MigrateCause, Migrates};
 ghost use Rattle.sql_keeper.specs.inside.Keeping.{Refuses, unmigrated};
 ghost use Rattle.sql_keeper.specs.Kept.{AdoptsLast, LeavesWithin, known_of};
 
@@ -46,9 +46,8 @@ impl<S: Alter> Model for SqlKeeper<S> {
 
 impl<S: Alter + Drop> SqlKeeper<S> {
     /// A keeper of the tables that a connection's last commit left: a transaction in progress is
-    /// rolled back. A store without a table gets fresh ones, in one transaction. A store with other
-    /// tables than those of the first or the second schema is left as it is, and is a fault. Each row
-    /// is read once.
+    /// rolled back. A store without a table gets fresh ones, in one transaction. A store of another
+    /// schema than the first and the second is left as it is, and is a fault. Each row is read once.
     pub fn adopt(alloc: Global, conn: Connection<S>) -> Result<SqlKeeper<S>, KeepFault>
         ensures begins { IfOk result (λ k. k.faults ≡ 0) }
         ensures tables { IfOk result (AdoptsLast S.Store conn) }

@@ -3,7 +3,8 @@ ghost use Rattle.std.specs.Prelude.{◌≡◌, false};
 ghost use Rattle.sql_keeper.specs.inside.Schemas.{keeper_schema, no_schema};
 ghost use Rattle.sql_keeper.specs.inside.Fresh.{cache_schema, inputs_schema, meta_schema};
 ghost use Rattle.sql_keeper.specs.inside.Calls.{AddsTable, CommitsNothing, Fills, IsBlankIn};
-ghost use Rattle.sql_keeper.specs.inside.Calls.{IsMakingIn, KeepsCommitIn, OnceMade, Undoes, WasClean};
+ghost use Rattle.sql_keeper.specs.inside.Calls.{IsMakingIn, KeepsCommitIn, OnceMade, Undoes};
+ghost use Rattle.sql_keeper.specs.inside.Calls.{WasClean};
 
 use sqlite::{Alter, Connection, Error, Transaction};
 

@@ -1,4 +1,4 @@
-//! A migration: all rows are read, the tables are dropped and made anew under the second schema, and
+//! A migration: all rows are read, the tables are dropped, made anew under the second schema, and
 //! filled, as one transaction. So the trees of a store that was moved are those of a fresh one.
 ghost use Rattle.std.specs.Prelude.{◌≡◌, false, length, true};
 ghost use Rattle.sql_keeper.specs.inside.Schemas.{no_schema, old_schema};
@@ -8,10 +8,10 @@ ghost use Rattle.sql_keeper.specs.inside.Moving.{with_old_results, with_store};
 ghost use Rattle.keeper_core.specs.Contents.{with_literal, with_output};
 ghost use Rattle.keeper_core.specs.WellFormed.{next_of};
 ghost use Rattle.sql_keeper.specs.inside.Calls.{AddsTable, CommitsNothing, DropsTableIn};
-ghost use Rattle.sql_keeper.specs.inside.Calls.{FailsToCommit, HasStore, IsDroppingIn, IsReadyForIn};
-ghost use Rattle.sql_keeper.specs.inside.Calls.{IsReadyIn, IsSettled, KeepsCommitIn, LeavesMovedIn};
-ghost use Rattle.sql_keeper.specs.inside.Calls.{MovesIn, OnceMoved, SparesBadRow, SparesIn, Steps};
-ghost use Rattle.sql_keeper.specs.inside.Calls.{Undoes, WasClean};
+ghost use Rattle.sql_keeper.specs.inside.Calls.{FailsToCommit, HasStore, IsDroppingIn};
+ghost use Rattle.sql_keeper.specs.inside.Calls.{IsReadyForIn, IsReadyIn, IsSettled};
+ghost use Rattle.sql_keeper.specs.inside.Calls.{KeepsCommitIn, LeavesMovedIn, MovesIn, OnceMoved};
+ghost use Rattle.sql_keeper.specs.inside.Calls.{SparesBadRow, SparesIn, Steps, Undoes, WasClean};
 
 use crate::columns::LogRow;
 use crate::commits::is_live;

@@ -5,11 +5,12 @@ ghost use Rattle.sqlite.specs.Listing.{understood};
 ghost use Rattle.keeper_core.specs.Contents.{has_format, meta_rows};
 ghost use Rattle.sql_keeper.specs.inside.Schemas.{schema_of};
 ghost use Rattle.sql_keeper.specs.inside.ShownRows.{output_of};
-ghost use Rattle.sql_keeper.specs.inside.Calls.{CommitsNothing, HasDatabase, HasStore, IsReadyForIn};
-ghost use Rattle.sql_keeper.specs.inside.Calls.{IsReadyIn, IsSettled, KeepsCommitIn, LoadsStored};
-ghost use Rattle.sql_keeper.specs.inside.Calls.{ReadsAs, SaysIn, ShowsCommitted, StaysIn, Undoes};
-ghost use Rattle.sql_keeper.specs.inside.Calls.{input_rows, job_numbers, log_at, meta_of, output_at};
-ghost use Rattle.sql_keeper.specs.inside.Calls.{rest_of, result_rows, says_second};
+ghost use Rattle.sql_keeper.specs.inside.Calls.{CommitsNothing, HasDatabase, HasStore};
+ghost use Rattle.sql_keeper.specs.inside.Calls.{IsReadyForIn, IsReadyIn, IsSettled};
+ghost use Rattle.sql_keeper.specs.inside.Calls.{KeepsCommitIn, LoadsStored, ReadsAs, SaysIn};
+ghost use Rattle.sql_keeper.specs.inside.Calls.{ShowsCommitted, StaysIn, Undoes, input_rows};
+ghost use Rattle.sql_keeper.specs.inside.Calls.{job_numbers, log_at, meta_of, output_at, rest_of};
+ghost use Rattle.sql_keeper.specs.inside.Calls.{result_rows, says_second};
 
 use crate::columns::{FromRow, read_rows};
 use crate::statements::touch;

@@ -1,4 +1,4 @@
-use Rattle.std.proofs.Common.{◌≡◌, ◌∙◌, inl, inr, ap, subst, sym, true, false}
+use Rattle.std.proofs.Common.{◌∙◌, inl, inr, ap, subst, sym, true, false}
 use Rattle.sqlite.specs.Effect.{Database}
 use Rattle.sqlite.specs.Held.{state}
 use Rattle.keeper_core.specs.declared.stored.Stored.TheVariants.{Current}

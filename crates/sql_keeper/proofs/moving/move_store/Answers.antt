@@ -4,7 +4,7 @@ use Rattle.std.specs.FinMap.{entries}
 use Rattle.sqlite.specs.Held.{state}
 use Rattle.sqlite.specs.State.{HasCleanDisk}
 use Rattle.keeper_core.specs.declared.stored.Stored.TheVariants.{Current}
-use Rattle.keeper_core.specs.Contents.{old_cache_row, old_rows}
+use Rattle.keeper_core.specs.Contents.{old_cache_row}
 use Rattle.keeper_core.specs.WellFormed.{old_first_bad}
 use Rattle.sql_keeper.specs.Rows.{old_contents}
 use Rattle.sql_keeper.specs.declared.first.OldStore.{OldStore}

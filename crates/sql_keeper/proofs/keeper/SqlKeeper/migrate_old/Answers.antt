@@ -1,4 +1,4 @@
-use Rattle.std.proofs.Common.{◌≡◌, ◌∙◌, IsTrue, false, Err, ap, inl, refl, sym, subst}
+use Rattle.std.proofs.Common.{◌∙◌, IsTrue, false, Err, ap, inl, refl, sym, subst}
 use Rattle.sqlite.specs.Held.{state}
 use Rattle.sqlite.specs.declared.error.Error.TheVariants.{SqliteFailure}
 use Rattle.sql_keeper.specs.Kept.{Kept}

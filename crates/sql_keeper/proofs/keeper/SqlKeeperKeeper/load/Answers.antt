@@ -1,4 +1,4 @@
-use Rattle.std.proofs.Common.{◌≡◌, Some, refl, sym, ap}
+use Rattle.std.proofs.Common.{◌≡◌, Some, refl}
 use Rattle.sqlite.specs.Held.{state}
 use Rattle.keeper_core.specs.EitherSchema.{loaded_of}
 use Rattle.sql_keeper.specs.Kept.{Kept}
