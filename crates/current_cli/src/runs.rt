@@ -71,7 +71,7 @@ fn counted_session<S: Source, K: Keeper, O: Sink, L: Launcher, C: Clock, F: File
     count: bool,
     input: &mut S,
     ends: &mut Ends<O, L, C, F>,
-) -> (K, SessionEnd)
+) -> (K, SessionEnd, u64)
     ensures session { let subject : Subject = record {
       program = start.checked;
       threshold = start.threshold;
@@ -119,7 +119,7 @@ impl<S: Source, M: Keepers, O: Sink, L: Launcher, C: Clock, F: Files> ProgramEnd
             keeper,
             threshold: options.threshold,
         };
-        let (keeper, end) = counted_session(
+        let (keeper, end, _version) = counted_session(
             alloc,
             start,
             options.count,
