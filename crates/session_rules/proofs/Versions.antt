@@ -35,8 +35,8 @@ use Rattle.session_rules.specs.Parts.{Turn, Part, Does, does, nothing, go_on, fo
 use Rattle.session_rules.specs.Scenes.{Scene, at_content, at_reading, exit_now, exits_later, expecting}
 use Rattle.session_rules.specs.Steps.{Counting, all_orders, answer_to, answered, counted, end_of, event, event_at, free_worker, next_order, one_order, order_limit, orders, pause_outputs, refused, run_after, run_of}
 use Rattle.session_rules.specs.Watching.{content_found, faulty, has_text, set_text, text_found, watch_all, watch_fault, watch_from, watch_limit, watch_one}
-use Rattle.session_rules.specs.Sessions.{Reaches, Script}
-use Rattle.session_rules.specs.Versions.{FinishesCounted}
+use Rattle.session_rules.specs.Sessions.{Script}
+use Rattle.session_rules.specs.Versions.{FinishesCounted, ReachesCounted}
 use Rattle.session_rules.specs.Transcripts.{End, Transcript, asked_part, event_now, is_quit, line_part, lines_from, next_line, orders_after}
 use Rattle.session_rules.proofs.Scripts.{line_script, next_is, part_reaches, reaches_finishes, reaches_start, reaches_then, script_for, script_from, script_of}
 
@@ -207,16 +207,11 @@ start_version program durable threshold reading s is =
 
 -- ---- a script that was done
 
--- up to another one, and the version rose by the number of the commits
-pub record Rises (t u : Script) (was now : ℕ) (a b : Outside) : Type 0 where
-  pub reaches : Reaches t u a b
-  pub versions : now ≡ was + length (deltas reaches.outputs)
-
-pub rises_start : (t : Script) (v : ℕ) (e : Outside) → Rises t t v v e e
+pub rises_start : (t : Script) (v : ℕ) (e : Outside) → ReachesCounted t t v v e e
 unfolding reaches_start
 rises_start t v e = record { reaches = reaches_start t e; versions = plain v }
 
-pub rises_then : (t u v : Script) (was now last : ℕ) (a b c : Outside) → Rises t u was now a b → Rises u v now last b c → Rises t v was last a c
+pub rises_then : (t u v : Script) (was now last : ℕ) (a b c : Outside) → ReachesCounted t u was now a b → ReachesCounted u v now last b c → ReachesCounted t v was last a c
 unfolding reaches_then
 rises_then t u v was now last a b c x y = record {
   reaches = reaches_then t u v a b c x.reaches y.reaches;
@@ -224,7 +219,7 @@ rises_then t u v was now last a b c x y = record {
 }
 
 -- and then to its end
-pub rises_finishes : (t u : Script) (end : End) (was now last : ℕ) (a b c : Outside) → Rises t u was now a b → FinishesCounted u end now last b c → FinishesCounted t end was last a c
+pub rises_finishes : (t u : Script) (end : End) (was now last : ℕ) (a b c : Outside) → ReachesCounted t u was now a b → FinishesCounted u end now last b c → FinishesCounted t end was last a c
 unfolding reaches_finishes
 rises_finishes t u end was now last a b c x y = record {
   finishes = reaches_finishes t u end a b c x.reaches y.finishes;
@@ -232,13 +227,13 @@ rises_finishes t u end was now last a b c x y = record {
 }
 
 -- a part was done
-pub part_rises : (p : Part) (s t : Scene) (next : Scene → Transcript) (a b : Outside) → CountsIn p → Does p s t a b → Rises (script_of p s next) (script_from next t) s.core.version t.core.version a b
+pub part_rises : (p : Part) (s t : Scene) (next : Scene → Transcript) (a b : Outside) → CountsIn p → Does p s t a b → ReachesCounted (script_of p s next) (script_from next t) s.core.version t.core.version a b
 unfolding part_reaches
 part_rises p s t next a b counts x = record { reaches = part_reaches p s t next a b x; versions = does_counts p s t a b counts x }
 
 -- a line was done, and others may follow
 pub line_rises : (counting : Counting) (line : TextLine) (lines : List TextLine) (n : ℕ) (s t : Scene) (a b : Outside) → is_quit line ≡ false → nat_lt 1 n ≡ true → Does (line_part counting line) s t a b →
-    Rises (script_for counting (line ∷ lines) n s) (script_for counting lines (n - 1) t) s.core.version t.core.version a b
+    ReachesCounted (script_for counting (line ∷ lines) n s) (script_for counting lines (n - 1) t) s.core.version t.core.version a b
 line_rises counting line lines n s t a b goes more x =
     rw (line_script counting line lines n s goes, sym (next_is counting line lines n t more))
     (part_rises (line_part counting line) s t (next_line n (lines_from counting lines)) a b (line_counts_in counting line) x)
