@@ -3,7 +3,7 @@ ghost use Rattle.std.specs.Prelude.{◌≡◌, ◌-◌, ◌<◌, max, IfOk, OnEr
 ghost use Rattle.std.specs.List.Sorted.{IsStrictlyIncreasing};
 ghost use Rattle.dep_index.specs.Pairs.{AreUsers, linked, no_links, unlinked};
 
-use crate::pair::{Pair, add, find_users, remove_all};
+use crate::pairs::Pairs;
 use crate::used::Used;
 use std::alloc::Global;
 use std::marker::Model;
@@ -13,8 +13,7 @@ use value_core::{ListOf, NoMemory};
 #[derive(Drop)]
 pub struct Deps {
     alloc: Global,
-    /// Each pair once.
-    pairs: Vec<Pair>,
+    pairs: Pairs,
     /// For how many more pairs there is room.
     spare: usize,
 }
@@ -26,12 +25,11 @@ impl Model for Deps {
 
     ghost coded = { index_code };
 
-    ghost use Rattle.std.specs.Prelude.{◌+◌, ◌≤◌, length, vec_capacity};
-    ghost use Rattle.dep_index.specs.Layout.{links_of};
+    ghost use Rattle.dep_index.specs.inside.Layout.{AreKept, HasRoom, links_in};
 
-    ghost view = { λ d. record { links = links_of d.pairs.items; spare = d.spare } };
+    ghost view = { λ d. record { links = links_in d.pairs; spare = d.spare } };
 
-    ghost invariant = { λ d. length d.pairs.items + d.spare ≤ vec_capacity d.pairs };
+    ghost invariant = { λ d. record { kept : AreKept d.pairs; room : HasRoom d.spare d.pairs } };
 }
 
 impl Deps {
@@ -41,7 +39,7 @@ impl Deps {
     {
         Deps {
             alloc,
-            pairs: Vec::new(alloc),
+            pairs: Pairs::new(alloc),
             spare: 0,
         }
     }
@@ -77,7 +75,7 @@ impl Deps {
         requires { 0 < self.old.spare }
         ensures { self.new ≡ record (linked self.old used to) { spare = self.old.spare - 1 } }
     {
-        add(&mut self.pairs, used, to);
+        self.pairs.insert(used, to);
         self.spare -= 1;
     }
 
@@ -85,7 +83,7 @@ impl Deps {
     pub fn unlink(&mut self, to: u32)
         ensures { self.new ≡ unlinked self.old to }
     {
-        remove_all(&mut self.pairs, to);
+        self.pairs.remove_all(to);
     }
 
     /// The instances that read a source, each once, in rising order.
@@ -93,9 +91,7 @@ impl Deps {
         ensures rising { IfOk result (λ us. IsStrictlyIncreasing us) }
         ensures users { IfOk result (λ us. AreUsers self.now.links used.now us) }
     {
-        let mut found = find_users(self.alloc, self.pairs.as_slice(), used)?;
-        found.sort_unstable();
-        found.dedup();
-        Ok(ListOf::from_vec(found))
+        let users = self.pairs.users(self.alloc, used)?;
+        Ok(ListOf::from_vec(users))
     }
 }
