@@ -142,9 +142,9 @@ faulty_counts name (Some f) s = plain s.core.version
 set_counts : (counting : Counting) (index : ℕ) (name t : List ℕ) → CountsIn (set_text counting index name t)
 set_counts counting index name t s = elim (has_text s.core index t)
     as (λ b. Counts s (if b then nothing s else event counting (what.SetInput name (value.Words t)) s)) [
-  | true ↦ plain s.core.version
-  | false ↦ event_counts counting (what.SetInput name (value.Words t)) s
-]
+      | true ↦ plain s.core.version
+      | false ↦ event_counts counting (what.SetInput name (value.Words t)) s
+    ]
 
 found_counts : (counting : Counting) (index : ℕ) (name : List ℕ) (r : Result (List ℕ) TextFault) → CountsIn (text_found counting index name r)
 found_counts counting index name (Ok t) s = set_counts counting index name t s

@@ -42,13 +42,15 @@ abbrev pub shown_or : Option Pair → Link
 shown_or (Some p) = shown p
 shown_or None = record { source = used.Input 0; to = 0 }
 
+-- the pair in the slot of a number
 abbrev pub link_at : List Pair → ℕ → Link
 link_at slots n = shown_or (slice_get slots n)
 
--- the pairs in slots of these numbers, as a list and as a set
+-- the pairs in slots of these numbers
 abbrev pub listed : List Pair → List ℕ → List Link
 listed slots ns = map (link_at slots) ns
 
+-- the pairs in slots of these numbers, as a set
 abbrev pub links_of : List Pair → List ℕ → Links
 links_of slots ns = from_list (listed slots ns)
 
@@ -100,6 +102,7 @@ pub record IsMovedLast (slot : ℕ) (slots : List Pair) (old new : List ℕ) : T
 
 -- ---- all pairs
 
+-- the pairs as a set
 abbrev pub links_in : Pairs → Links
 links_in p = links_of p.slots.items p.by_source.items
 
