@@ -1,39 +1,96 @@
 #!/usr/bin/env python3
-"""Measures events of an engine at 10 and at 1,000 nodes, and takes and finishes at 100 and at 10,000 queued jobs.
+"""Measures events at 10 and at 1,000 nodes, and orders at 100 and at 10,000 queued jobs, each pair as a ratio in one run.
 
-The program of engine/ is built by `rt try`, which proves nothing and builds with checks; each time is the faster of
-two, all in one run, and what counts are the ratios.
+Build the program first: `rt run` or `rt ci` leave it in crates/current_cli/out. An event is the time of a session with the lines
+less that of one without them, by the number of lines; it touches one node, and the others stay as they are. Each session is run
+three times, and the fastest counts. Orders name a command that isn't there, so that one is taken and ends without a child's run;
+what counts is the time from the first end that is printed to the end of the twentieth order after it.
 """
+import os
 import subprocess
 import tempfile
+import time
 
-from running import laid_out
+from running import built_program, fastest
 
-BELOW = ["value_core", "op_keys", "term_core", "sched_rows", "fair_pool", "core_rules", "job_core", "pipe_text",
-         "term_check", "engine_rules", "keeper_core", "io_ends", "scope_pool", "dep_index", "visit_rules", "incr_eval",
-         "engine_core"]
-WHAT = ["an input is set", "a job is confirmed", "a tick"]
-EVENTS = 20
-ORDERS = 5
+NODES = [10, 1000]
+EVENTS = 250
+HELD = 25
+ORDERS = 20
+QUEUED = [100, 10000]
+ITEMS = 250
+RUNS = 3
+
+OPERATIONS = """pool p hold 0
+client c p 1
+worker w p 1
+op danger build pool p client c cost 1 0 level dangerous run "none" "{key}"
+op build build pool p client c cost 1 0 run "./no such command" "{key}"
+"""
 
 
-def times(folder):
-    ours = laid_out(folder, BELOW, "engine_timed", "engine")
-    run = subprocess.run(["rt", "try", "--seconds", "900"], cwd=ours, capture_output=True, text=True, check=False)
-    found = [line.split() for line in run.stdout.splitlines()]
-    took = [int(words[1]) for words in found if len(words) == 2 and words[0].isdigit() and words[1].isdigit()]
-    if len(took) != 2 * len(WHAT) + 2:
-        raise SystemExit(run.stdout + run.stderr)
-    return took
+def items(count):
+    return "[" + ", ".join(f'"{n}"' for n in range(count)) + "]"
+
+
+def events_pipeline(nodes, held):
+    lines = ["pipeline 1", 'input one text "start"', 'input rest text "rest"', f"input keys list {items(held)}", OPERATIONS.strip()]
+    lines += ["node held (list_map key (input keys) (build danger (var key)))", "node first (map length (input one))"]
+    lines += [f"node n{n} (pair (input rest) (return {n}))" for n in range(nodes - 2)]
+    return "\n".join(lines) + "\n"
+
+
+def queue_pipeline(jobs):
+    lines = ["pipeline 1", f"input keys list {items(min(jobs, ITEMS))}", OPERATIONS.strip()]
+    for n in range(max(1, jobs // ITEMS)):
+        key = f'(map concat (pair (return "{n} ") (var key)))'
+        lines.append(f"node n{n} (list_map key (input keys) (build build {key}))")
+    return "\n".join(lines) + "\n"
+
+
+def written(folder, name, text):
+    path = os.path.join(folder, name)
+    with open(path, "w", encoding="utf-8") as f:
+        f.write(text)
+    return path
+
+
+KINDS = [
+    ("an input is set", 0, [f'set one "{n}"' for n in range(EVENTS)]),
+    ("a job is confirmed", HELD, [f"confirm {n}" for n in range(1, HELD + 1)]),
+    ("a tick", 0, ["tick"] * EVENTS),
+]
+
+
+def event(program, folder, nodes, held, lines):
+    """The microseconds of one of the lines; no order is taken."""
+    words = [program, "run", written(folder, "p", events_pipeline(nodes, held)), "--confirm", "dangerous"]
+    bare = fastest(RUNS, words, written(folder, "before", "pause w\n"))
+    return 1e6 * (fastest(RUNS, words, written(folder, "lines", "\n".join(["pause w", *lines, ""]))) - bare) / len(lines)
+
+
+def order(program, folder, jobs):
+    """The microseconds of an order."""
+    ends = []
+    words = [program, "run", written(folder, "q", queue_pipeline(jobs))]
+    with subprocess.Popen(words, stdin=subprocess.DEVNULL, stdout=subprocess.PIPE) as run:
+        for line in run.stdout:
+            if line.startswith(b"end "):
+                ends.append(time.perf_counter())
+            if len(ends) > ORDERS:
+                break
+        run.kill()
+    return 1e6 * (ends[-1] - ends[0]) / ORDERS
 
 
 def main():
+    program = built_program()
     with tempfile.TemporaryDirectory() as folder:
-        took = times(folder)
-    for what, few, many in zip(WHAT, took[0::2], took[1::2]):
-        print(f"{what}, at 10 and at 1,000 nodes: {few / EVENTS:.0f} and {many / EVENTS:.0f} microseconds, {many / few:.1f}")
-    few, many = took[-2:]
-    print(f"a take and a finish, at 100 and at 10,000 queued: {few / ORDERS:.0f} and {many / ORDERS:.0f} microseconds, {many / few:.1f}")
+        for what, held, lines in KINDS:
+            few, many = (event(program, folder, nodes, held, lines) for nodes in NODES)
+            print(f"{what}, at {NODES[0]} and {NODES[1]} nodes: {few:.0f} and {many:.0f} microseconds; ratio {many / few:.1f}")
+        few, many = (order(program, folder, jobs) for jobs in QUEUED)
+        print(f"an order, at {QUEUED[0]} and {QUEUED[1]} queued: {few:.0f} and {many:.0f} microseconds; ratio {many / few:.1f}")
 
 
 main()
