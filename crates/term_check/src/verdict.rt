@@ -22,18 +22,18 @@ const DEEP_LIMIT: u32 = 64;
 
 /// A term's position.
 #[derive(Clone, Copy, Debug, PartialEq, Eq)]
-pub(crate) struct Position {
+pub struct Position {
     /// How many list bodies are round it.
-    pub(crate) bodies: u32,
+    pub bodies: u32,
     /// How many terms of the file stood in two list bodies before it.
-    pub(crate) deep: u32,
+    pub deep: u32,
     /// Its number in its node.
-    pub(crate) at: u32,
+    pub at: u32,
 }
 
 /// What the check of a term gives.
 #[derive(Drop)]
-pub(crate) enum Verdict {
+pub enum Verdict {
     /// The term's kind, how many terms of the file stood in two list bodies up to its end, and the
     /// number of the next term.
     Typed { kind: Kind, deep: u32, next: u32 },
