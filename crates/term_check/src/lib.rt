@@ -28,5 +28,4 @@ pub use laws::{
     sound_states_have_their_kinds, sound_without_fault,
 };
 pub use report::Report;
-pub use verdict::{Position, Verdict};
 pub use wanted::{Wanted, write_kind, write_wanted};

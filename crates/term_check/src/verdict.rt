@@ -22,18 +22,18 @@ const DEEP_LIMIT: u32 = 64;
 
 /// A term's position.
 #[derive(Clone, Copy, Debug, PartialEq, Eq)]
-pub struct Position {
+pub(crate) struct Position {
     /// How many list bodies are round it.
-    pub bodies: u32,
+    pub(crate) bodies: u32,
     /// How many terms of the file stood in two list bodies before it.
-    pub deep: u32,
+    pub(crate) deep: u32,
     /// Its number in its node.
-    pub at: u32,
+    pub(crate) at: u32,
 }
 
 /// What the check of a term gives.
 #[derive(Drop)]
-pub enum Verdict {
+pub(crate) enum Verdict {
     /// The term's kind, how many terms of the file stood in two list bodies up to its end, and the
     /// number of the next term.
     Typed { kind: Kind, deep: u32, next: u32 },
