@@ -99,7 +99,7 @@ impl<S: Source, M: Keepers, O: Sink, L: Launcher, C: Clock, F: Files> ProgramEnd
     C,
     F,
 > {
-    /// Runs a session on a program, over its store, which is given back before the end is told.
+    /// Runs a session on a program, over its store, which is given back before the end is reported.
     fn run_program(&mut self, alloc: Global, checked: Checked, options: RunOptions) -> u8
         ensures run { let given = given_by S.left M.held C.readings F.held self.old in
             let see = seen_by M.knows_left M.left O.written L.runs in

@@ -12,4 +12,4 @@ pub mod Gathers
 pub mod Unused
 pub mod Passing
 pub mod FirstTwo
-pub mod Ordered
+pub mod Tallies

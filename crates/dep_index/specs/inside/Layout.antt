@@ -136,6 +136,7 @@ pub record IsSlotOf (to : ℕ) (p : Pairs) (slot : ℕ) : Type 0 where
 abbrev pub HasNoneOf : ℕ → Links → Type 0
 HasNoneOf to links = (l : Link) → contains links l ≡ true → (l.to == to) ≡ false
 
+-- a slot with a pair of the instance is found, or there is none
 abbrev pub FindsUser : ℕ → Pairs → Option ℕ → Type 0
 FindsUser to p result = MatchOption result (HasNoneOf to (links_in p)) (IsSlotOf to p)
 
