@@ -1,5 +1,5 @@
 -- What closing a scope makes of the open scopes.
-use Rattle.std.proofs.Common.{◌≡◌, ℕ, ◌+◌, ◌<◌, List, [], ◌∷◌, ◌++◌, filter, Option, Some, None, true, false, Bool, cond, refl, ap, sym, ◌∙◌, arith, not, ◌==◌, ◌||◌, All, subst}
+use Rattle.std.proofs.Common.{◌≡◌, ℕ, zero, suc, ◌+◌, ◌<◌, List, length, get_or, [], ◌∷◌, ◌++◌, filter, Option, Some, None, true, false, Bool, cond, refl, ap, sym, ◌∙◌, arith, not, ◌==◌, ◌||◌, All, subst}
 use Rattle.std.proofs.lemmas.List.{append_assoc, append-nil}
 use Rattle.std.proofs.lemmas.List.Elements.{All-push, All-tail, filter-append}
 use Rattle.std.proofs.lemmas.List.Folds.{list_any-append}
@@ -10,6 +10,17 @@ use Rattle.scope_pool.specs.declared.scopes.Scope.{Scope}
 
 pub false-ne-true : false ≡ true → ⊥
 false-ne-true h = cc
+
+pub same_name : (n : ℕ) → (n == n) ≡ true
+same_name n = grind (arith, nat_tests)
+
+pub or_later : (a b : Bool) → b ≡ true → (a || b) ≡ true
+or_later true b h = refl
+or_later false b h = h
+
+pub or_first : (a b : Bool) → a ≡ true → (a || b) ≡ true
+or_first true b h = refl
+or_first false b h = cc
 
 -- ---- what a pass over the scopes finds
 
@@ -61,6 +72,26 @@ pub found_is : (outer : ℕ) (ss : List Scope) → AreSound (newest_first ss) �
 found_is outer ss sound n =
     ap (λ found. among found n) (found_turned outer ss [] ∙ ap (found_in outer) (append-nil (newest_first ss))) ∙ found_within outer (newest_first ss) sound n
 
+open_at : (ss : List Scope) (i : ℕ) (d : Scope) → i < length ss → is_open (newest_first ss) (get_or ss i d).name ≡ true
+open_at [] i d h = absurd (omega arith)
+open_at (s ∷ ss) zero d h =
+    let whole : is_open (newest_first ss ++ shown s ∷ []) s.name ≡ (is_open (newest_first ss) s.name || (s.name == s.name || false)) = list_any-append (λ t. t.name == s.name) (newest_first ss) (shown s ∷ []) in
+    whole ∙ or_later (is_open (newest_first ss) s.name) (s.name == s.name || false) (or_first (s.name == s.name) false (same_name s.name))
+open_at (s ∷ ss) (suc i) d h =
+    let n = (get_or ss i d).name in
+    let whole : is_open (newest_first ss ++ shown s ∷ []) n ≡ (is_open (newest_first ss) n || (s.name == n || false)) = list_any-append (λ t. t.name == n) (newest_first ss) (shown s ∷ []) in
+    whole ∙ or_first (is_open (newest_first ss) n) (s.name == n || false) (open_at ss i d (omega arith))
+
+found_each : (P : ℕ → Type 0) (outer : ℕ) (found : List ℕ) (ss : List Scope) → All P found → All (λ s. P s.name) ss → All P (found_from outer found ss)
+found_each P outer found [] had all = had
+found_each P outer found (s ∷ ss) had all =
+    let more : (b : Bool) → All P (cond b (found ++ s.name ∷ []) found) = λ b. elim b as (λ b. All P (cond b (found ++ s.name ∷ []) found)) [ true ↦ All-push P found s.name had (all 0 s (omega arith)) | false ↦ had ] in
+    found_each P outer (cond (s.name == outer || among_maybe found s.parent) (found ++ s.name ∷ []) found) ss (more (s.name == outer || among_maybe found s.parent)) (All-tail (λ t. P t.name) s ss all)
+
+-- only open scopes are found
+pub found_open : (outer : ℕ) (ss : List Scope) → All (λ n. is_open (newest_first ss) n ≡ true) (found_from outer [] ss)
+found_open outer ss = found_each (λ n. is_open (newest_first ss) n ≡ true) outer [] ss (λ i d h. absurd (omega arith)) (λ i d h. open_at ss i d h)
+
 -- ---- what is left
 
 -- the scopes that are left, with the newest first
@@ -107,19 +138,8 @@ apart name n older new h =
 pub skips : (outer : ℕ) (s : OpenScope) (older : List OpenScope) (n : ℕ) → is_open older s.name ≡ false → is_open older n ≡ true → is_within outer (Some n) (s ∷ older) ≡ is_within outer (Some n) older
 skips outer s older n new h = ap (λ b. cond b (n == outer || is_within outer s.parent older) (is_within outer (Some n) older)) (apart s.name n older new h)
 
-pub same_name : (n : ℕ) → (n == n) ≡ true
-same_name n = grind (arith, nat_tests)
-
 open_maybe : (older : List OpenScope) (o : Option ℕ) (p : ℕ) → o ≡ Some p → IsOpenOrTop older o → is_open older p ≡ true
 open_maybe older o p e h = subst (IsOpenOrTop older) e h
-
-pub or_later : (a b : Bool) → b ≡ true → (a || b) ≡ true
-or_later true b h = refl
-or_later false b h = h
-
-pub or_first : (a b : Bool) → a ≡ true → (a || b) ≡ true
-or_first true b h = refl
-or_first false b h = cc
 
 or_false : (a b : Bool) → (a || b) ≡ false → b ≡ false
 or_false true b h = cc

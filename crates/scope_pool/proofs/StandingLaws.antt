@@ -81,7 +81,7 @@ module _ {A : Type 0} where
   len_standing xs = len_from xs 0
 
 module _ {A : Type 0} where
-  left_at : (gone : ℕ → Bool) (xs : List (Option (ScopedItem A))) (q : ℕ) → slice_index_or (map (left_by gone) xs) q None ≡ left_by gone (slice_index_or xs q None)
+  pub left_at : (gone : ℕ → Bool) (xs : List (Option (ScopedItem A))) (q : ℕ) → slice_index_or (map (left_by gone) xs) q None ≡ left_by gone (slice_index_or xs q None)
   left_at gone [] q = refl
   left_at gone (x ∷ xs) zero = refl
   left_at gone (x ∷ xs) (suc q) = left_at gone xs q

@@ -5,8 +5,8 @@ ghost use Rattle.std.specs.Option.{option_map};
 ghost use Rattle.scope_pool.specs.Laws.{AreNestedByParents};
 ghost use Rattle.scope_pool.specs.Region.{AreSound, IsLive, IsOpen, IsOpenOrTop, closed, is_open, item_at, nothing_open, opened, put_at, reserved, set_at};
 
-use crate::scopes::{Scope, drop_scopes, find_within, reserve_scopes};
-use crate::slots::{Slot, exchange, fill, item_in, reserve_slots, vacate};
+use crate::scopes::{Scope, drop_scopes, find_within, index_of, reserve_scopes};
+use crate::slots::{Slot, exchange, fill, item_in, reserve_slots, vacate_all};
 use std::alloc::{AllocError, Global};
 use std::marker::Model;
 
@@ -43,8 +43,8 @@ impl<T> Model for Pool<T> {
 
     ghost coded = { region_code T.code };
 
-    ghost use Rattle.std.specs.Prelude.{◌≡◌, ◌+◌, ◌<◌, ◌≤◌, ◌^◌, [], All, length, map, vec_capacity};
-    ghost use Rattle.scope_pool.specs.Layout.{IsLaidOut, held_in, newest_first, standing};
+    ghost use Rattle.std.specs.Prelude.{◌≡◌, ℕ, ◌+◌, ◌<◌, ◌≤◌, ◌^◌, [], None, All, length, map, vec_capacity};
+    ghost use Rattle.scope_pool.specs.Layout.{AreChained, IsAscending, IsChained, IsLaidOut, held_in, link_at, newest_first, standing};
 
     ghost view = { λ p. record {
       scopes = newest_first p.scopes.items;
@@ -64,6 +64,9 @@ impl<T> Model for Pool<T> {
       names_left : p.next_scope + p.spare_scopes < 2 ^ 64;
       names_used : All (λ s. s.name < p.next_scope) p.scopes.items;
       sound : AreSound (newest_first p.scopes.items);
+      ascending : IsAscending p.scopes.items;
+      chained : AreChained p.slots.items p.scopes.items;
+      unused : (t : ℕ) → p.next_scope ≤ t → IsChained (link_at p.slots.items) t None;
     } };
 }
 
@@ -119,6 +122,7 @@ impl<T: Drop> Pool<T> {
         self.scopes.push_reserved(Scope {
             name,
             parent: name_of(parent),
+            last: None,
         });
         self.next_scope += 1;
         self.spare_scopes -= 1;
@@ -134,9 +138,11 @@ impl<T: Drop> Pool<T> {
         ensures put { self.new ≡ put_at self.old result.number scope.name item }
     {
         self.spare_puts -= 1;
-        Place {
-            number: fill(&mut self.slots, &mut self.vacant, scope.name, item),
-        }
+        let index = index_of(self.scopes.as_slice(), scope.name);
+        let last = self.scopes[index].last;
+        let number = fill(&mut self.slots, &mut self.vacant, scope.name, last, item);
+        self.scopes[index].last = Some(number);
+        Place { number }
     }
 
     /// The item at a live place.
@@ -165,8 +171,13 @@ impl<T: Drop> Pool<T> {
         ensures { self.new ≡ closed self.old scope.name }
     {
         find_within(self.scopes.as_slice(), scope.name, &mut self.closing);
+        vacate_all(
+            &mut self.slots,
+            &mut self.vacant,
+            &mut self.scopes,
+            self.closing.as_slice(),
+        );
         drop_scopes(&mut self.scopes, self.closing.as_slice());
-        vacate(&mut self.slots, &mut self.vacant, self.closing.as_slice());
         self.closing.clear();
     }
 

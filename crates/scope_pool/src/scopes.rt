@@ -1,6 +1,8 @@
 //! Open scopes in the order in which they were opened, so that a parent stands before its children.
-ghost use Rattle.std.specs.Prelude.{◌≡◌, ◌+◌, ◌≤◌, [], filter, not, length, map, OnOk, vec_capacity, vec_len};
-ghost use Rattle.scope_pool.specs.Layout.{among, among_maybe, found_from};
+ghost use Rattle.std.specs.Prelude.{◌≡◌, ◌+◌, ◌<◌, ◌≤◌, [], slice_index_or, filter, not, length, map, OnOk, vec_capacity, vec_len};
+ghost use Rattle.scope_pool.specs.Layout.{among, among_maybe, found_from, newest_first, Finds, IsAscending};
+ghost use Rattle.scope_pool.specs.Region.{IsOpen};
+ghost use Rattle.scope_pool.specs.declared.scopes.Scope.{Scope};
 
 use std::alloc::AllocError;
 
@@ -8,6 +10,28 @@ use std::alloc::AllocError;
 pub(crate) struct Scope {
     pub(crate) name: u64,
     pub(crate) parent: Option<u64>,
+    /// The place of the item that was put into it last.
+    pub(crate) last: Option<u32>,
+}
+
+/// The index of an open scope.
+pub(crate) fn index_of(scopes: &[Scope], name: u64) -> usize
+    requires ascending { IsAscending scopes.now }
+    requires open { IsOpen (newest_first scopes.now) name }
+    ensures within { result < length scopes.now }
+    ensures named { (d : Scope) → (slice_index_or scopes.now result d).name ≡ name }
+{
+    match search(scopes, name) {
+        Ok(index) => index,
+        Err(_) => unreachable!(),
+    }
+}
+
+fn search(scopes: &[Scope], name: u64) -> Result<usize, usize>
+    requires { IsAscending scopes.now }
+    ensures { Finds name scopes.now result }
+{
+    scopes.binary_search_by(|scope| scope.name.cmp(&name))
 }
 
 /// Makes room for so many more scopes, also where they are all given up at once.

@@ -1,7 +1,10 @@
 //! Slots for items, and the stack of those that are vacant.
-ghost use Rattle.std.specs.Prelude.{◌≡◌, ℕ, ◌+◌, ◌<◌, ◌≤◌, ◌^◌, true, if◌then◌else◌, List, length, IsSome, IsTrue, OnOk, Some, None, vec_capacity, vec_len};
-ghost use Rattle.scope_pool.specs.Layout.{among, held_at, held_in, is_held, item_at, left_by, slot_item, slot_with, HoldSame, IsExchanged, IsFilled, IsLaidOut, IsVacated, IsVacatedAt};
+ghost use Rattle.std.specs.Prelude.{◌≡◌, ℕ, ◌+◌, ◌<◌, ◌≤◌, ◌^◌, true, All, List, length, slice_set, IsSome, OnOk, Some, None, vec_capacity, vec_len};
+ghost use Rattle.std.specs.Option.{option_map};
+ghost use Rattle.scope_pool.specs.Layout.{held_at, holdings, is_held, item_at, link_at, link_in, links, newest_first, slot_item, slot_with, AreChained, ChainSame, HoldSame, IsAscending, IsChained, IsExchanged, IsFilled, IsLaidOut, IsVacated, IsVacatedOf, KeepsOthers, KeepsScopes, Link};
+ghost use Rattle.scope_pool.specs.Region.{IsOpen};
 
+use crate::scopes::{Scope, index_of};
 use std::alloc::AllocError;
 use std::mem;
 
@@ -9,7 +12,12 @@ use std::mem;
 pub(crate) enum Slot<T> {
     /// Its place in the stack of vacant slots.
     Vacant(usize),
-    Held { scope: u64, item: T },
+    Held {
+        scope: u64,
+        /// The place of the item that was put into the scope before.
+        before: Option<u32>,
+        item: T,
+    },
 }
 
 /// Places are numbers of 32 bits.
@@ -24,6 +32,7 @@ impl<T> Slot<T> {
         match self {
             Slot::Held {
                 scope: _,
+                before: _,
                 item: held,
             } => mem::replace(held, item),
             Slot::Vacant(_) => unreachable!(),
@@ -42,6 +51,7 @@ pub(crate) fn reserve_slots<T>(
     requires room_to_vacate { vec_len slots.old ≤ vec_capacity vacant.old }
     ensures laid_out { IsLaidOut slots.new.items vacant.new.items }
     ensures places { HoldSame slots.old.items slots.new.items }
+    ensures chains { ChainSame slots.old.items slots.new.items }
     ensures few { vec_len slots.new ≤ 2 ^ 32 }
     ensures room_to_vacate { vec_len slots.new ≤ vec_capacity vacant.new }
     ensures vacant { vec_len vacant.old ≤ vec_len vacant.new }
@@ -65,6 +75,7 @@ fn add_vacant<T>(slots: &mut Vec<Slot<T>>, vacant: &mut Vec<u32>, more: usize)
     requires room_to_vacate { vec_len vacant.old + more ≤ vec_capacity vacant.old }
     ensures laid_out { IsLaidOut slots.new.items vacant.new.items }
     ensures places { HoldSame slots.old.items slots.new.items }
+    ensures chains { ChainSame slots.old.items slots.new.items }
     ensures len { vec_len slots.new ≡ vec_len slots.old + more }
     ensures vacant { vec_len vacant.new ≡ vec_len vacant.old + more }
     ensures capacity { vec_capacity slots.new ≡ vec_capacity slots.old }
@@ -83,6 +94,7 @@ fn add_slot<T>(slots: &mut Vec<Slot<T>>, vacant: &mut Vec<u32>)
     requires room_to_vacate { vec_len vacant.old < vec_capacity vacant.old }
     ensures laid_out { IsLaidOut slots.new.items vacant.new.items }
     ensures places { HoldSame slots.old.items slots.new.items }
+    ensures chains { ChainSame slots.old.items slots.new.items }
     ensures len { vec_len slots.new ≡ vec_len slots.old + 1 }
     ensures vacant { vec_len vacant.new ≡ vec_len vacant.old + 1 }
     ensures capacity { vec_capacity slots.new ≡ vec_capacity slots.old }
@@ -98,6 +110,7 @@ pub(crate) fn fill<T: Drop>(
     slots: &mut Vec<Slot<T>>,
     vacant: &mut Vec<u32>,
     scope: u64,
+    before: Option<u32>,
     item: T,
 ) -> u32
     requires laid_out { IsLaidOut slots.old.items vacant.old.items }
@@ -107,6 +120,8 @@ pub(crate) fn fill<T: Drop>(
     ensures within { result < vec_len slots.old }
     ensures filled { IsFilled result (record { scope = scope; item = item })
         slots.old.items slots.new.items }
+    ensures chained { let link : Link = record { scope = scope; before = before } in
+        links slots.new.items ≡ slice_set (links slots.old.items) result (Some link) }
     ensures len { vec_len slots.new ≡ vec_len slots.old }
     ensures vacant { vec_len vacant.new + 1 ≡ vec_len vacant.old }
     ensures capacity { vec_capacity vacant.new ≡ vec_capacity vacant.old }
@@ -115,7 +130,11 @@ pub(crate) fn fill<T: Drop>(
         Some(number) => number,
         None => unreachable!(),
     };
-    slots[number as usize] = Slot::Held { scope, item };
+    slots[number as usize] = Slot::Held {
+        scope,
+        before,
+        item,
+    };
     number
 }
 
@@ -124,6 +143,7 @@ pub(crate) fn exchange<T>(slots: &mut Vec<Slot<T>>, place: u32, item: T) -> T
     requires { IsSome (held_at slots.old.items place) }
     ensures old { item_at slots.old.items place ≡ Some result }
     ensures new { IsExchanged place item slots.old.items slots.new.items }
+    ensures chains { ChainSame slots.old.items slots.new.items }
     ensures laid_out { (vacant : List ℕ) → IsLaidOut slots.old.items vacant
         → IsLaidOut slots.new.items vacant }
     ensures len { vec_len slots.new ≡ vec_len slots.old }
@@ -138,53 +158,87 @@ pub(crate) fn item_in<T>(slots: &[Slot<T>], place: u32) -> &T
     ensures { item_at slots.now place ≡ Some result.now }
 {
     match &slots[place as usize] {
-        Slot::Held { scope: _, item } => item,
+        Slot::Held { item, .. } => item,
         Slot::Vacant(_) => unreachable!(),
     }
 }
 
-/// Vacates the slots of these scopes.
-pub(crate) fn vacate<T: Drop>(slots: &mut Vec<Slot<T>>, vacant: &mut Vec<u32>, closing: &[u64])
+/// Vacates the slots of these open scopes.
+pub(crate) fn vacate_all<T: Drop>(
+    slots: &mut Vec<Slot<T>>,
+    vacant: &mut Vec<u32>,
+    scopes: &mut Vec<Scope>,
+    closing: &[u64],
+)
     requires laid_out { IsLaidOut slots.old.items vacant.old.items }
     requires few { vec_len slots.old ≤ 2 ^ 32 }
     requires room { vec_len slots.old ≤ vec_capacity vacant.old }
+    requires ascending { IsAscending scopes.old.items }
+    requires chained { AreChained slots.old.items scopes.old.items }
+    requires open { All (λ n. IsOpen (newest_first scopes.old.items) n) closing.now }
     ensures laid_out { IsLaidOut slots.new.items vacant.new.items }
+    ensures chained { AreChained slots.new.items scopes.new.items }
+    ensures unused { (t : ℕ) → IsChained (link_at slots.old.items) t None
+        → IsChained (link_at slots.new.items) t None }
     ensures left { IsVacated closing.now slots.old.items slots.new.items }
+    ensures scopes { KeepsScopes scopes.old.items scopes.new.items }
+    ensures scopes_capacity { vec_capacity scopes.new ≡ vec_capacity scopes.old }
     ensures len { vec_len slots.new ≡ vec_len slots.old }
     ensures vacant { vec_len vacant.old ≤ vec_len vacant.new }
     ensures capacity { vec_capacity vacant.new ≡ vec_capacity vacant.old }
 {
-    for i in 0..slots.len() {
-        vacate_one(slots, vacant, i, closing);
+    for name in closing {
+        let index = index_of(scopes.as_slice(), *name);
+        vacate(slots, vacant, &mut scopes[index]);
     }
 }
 
-/// Vacates a slot if it is of one of these scopes.
-fn vacate_one<T: Drop>(slots: &mut Vec<Slot<T>>, vacant: &mut Vec<u32>, i: usize, closing: &[u64])
+/// Vacates the slots of a scope.
+fn vacate<T: Drop>(slots: &mut Vec<Slot<T>>, vacant: &mut Vec<u32>, scope: &mut Scope)
     requires laid_out { IsLaidOut slots.old.items vacant.old.items }
     requires few { vec_len slots.old ≤ 2 ^ 32 }
     requires room { vec_len slots.old ≤ vec_capacity vacant.old }
-    requires within { i < vec_len slots.old }
+    requires chained { IsChained (link_at slots.old.items) scope.old.name scope.old.last }
     ensures laid_out { IsLaidOut slots.new.items vacant.new.items }
-    ensures left { IsVacatedAt i closing.now slots.old.items slots.new.items }
+    ensures chained { IsChained (link_at slots.new.items) scope.old.name None }
+    ensures others { KeepsOthers scope.old.name slots.old.items slots.new.items }
+    ensures left { IsVacatedOf scope.old.name slots.old.items slots.new.items }
+    ensures scope { scope.new ≡ record scope.old { last = None } }
     ensures len { vec_len slots.new ≡ vec_len slots.old }
     ensures vacant { vec_len vacant.old ≤ vec_len vacant.new }
     ensures capacity { vec_capacity vacant.new ≡ vec_capacity vacant.old }
 {
-    if stands_in(&slots[i], closing) {
-        slots[i] = Slot::Vacant(vacant.len());
-        vacant.push_reserved(i as u32);
+    while let Some(place) = scope.last {
+        scope.last = vacate_one(slots, vacant, place);
     }
 }
 
-/// Whether a slot is of one of these scopes.
-fn stands_in<T>(slot: &Slot<T>, closing: &[u64]) -> bool
-    ensures stays { let held = held_in slot.now in
-        left_by (among closing.now) held ≡ (if result then None else held) }
-    ensures held { IsTrue result → is_held slot.now ≡ true }
+/// Vacates a slot that is held, and returns the place before it in its chain.
+fn vacate_one<T: Drop>(slots: &mut Vec<Slot<T>>, vacant: &mut Vec<u32>, place: u32) -> Option<u32>
+    requires laid_out { IsLaidOut slots.old.items vacant.old.items }
+    requires room { vec_len slots.old ≤ vec_capacity vacant.old }
+    requires held { IsSome (held_at slots.old.items place) }
+    ensures laid_out { IsLaidOut slots.new.items vacant.new.items }
+    ensures before { option_map (λ l. l.before) (link_at slots.old.items place) ≡ Some result }
+    ensures left { holdings slots.new.items ≡ slice_set (holdings slots.old.items) place None }
+    ensures links { links slots.new.items ≡ slice_set (links slots.old.items) place None }
+    ensures len { vec_len slots.new ≡ vec_len slots.old }
+    ensures vacant { vec_len vacant.new ≡ vec_len vacant.old + 1 }
+    ensures capacity { vec_capacity vacant.new ≡ vec_capacity vacant.old }
+{
+    let before = before_in(&slots[place as usize]);
+    slots[place as usize] = Slot::Vacant(vacant.len());
+    vacant.push_reserved(place);
+    before
+}
+
+/// The place before a slot that is held.
+fn before_in<T>(slot: &Slot<T>) -> Option<u32>
+    requires { is_held slot.now ≡ true }
+    ensures { option_map (λ l. l.before) (link_in slot.now) ≡ Some result }
 {
     match slot {
-        Slot::Vacant(_) => false,
-        Slot::Held { scope, item: _ } => closing.contains(scope),
+        Slot::Held { before, .. } => *before,
+        Slot::Vacant(_) => unreachable!(),
     }
 }

@@ -1,6 +1,6 @@
 use Rattle.std.proofs.Common.{arith}
 use Rattle.std.proofs.lemmas.Grind.{common_steps}
-use Rattle.scope_pool.proofs.SlotLaws.{laid_out-added, seen-added}
+use Rattle.scope_pool.proofs.SlotLaws.{laid_out-added, link-added, seen-added}
 use Rattle.scope_pool.proofs.slots.add_slot.Goals as goal
 
 pub returns-clause-laid_out : goal.returns-clause-laid_out
@@ -8,3 +8,6 @@ returns-clause-laid_out g c = rw (c.push_reserved.ensures.items, c.push_reserved
 
 pub returns-clause-places : goal.returns-clause-places
 returns-clause-places g c = λ place. rw c.push_reserved.ensures.items (seen-added c.args.slots.now.items c.len.result place)
+
+pub returns-clause-chains : goal.returns-clause-chains
+returns-clause-chains g c = λ place. rw c.push_reserved.ensures.items (link-added c.args.slots.now.items c.len.result place)

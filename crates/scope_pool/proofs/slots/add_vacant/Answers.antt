@@ -9,4 +9,5 @@ loop-preserved g c = record {
   capacity = c.add_slot.ensures.capacity ∙ c.loop.invariant.capacity;
   capacity_to_vacate = c.add_slot.ensures.capacity_to_vacate ∙ c.loop.invariant.capacity_to_vacate;
   places = λ place. c.add_slot.ensures.places place ∙ c.loop.invariant.places place;
+  chains = λ place. c.add_slot.ensures.chains place ∙ c.loop.invariant.chains place;
 }

@@ -1,7 +1,10 @@
 use Rattle.std.proofs.Common.{◌∙◌, ◌-◌, ◌∷◌, ap, arith, map}
 use Rattle.std.proofs.lemmas.Grind.{common_steps}
-use Rattle.scope_pool.specs.Layout.{held_in, newest_first, standing}
+use Rattle.scope_pool.specs.Layout.{IsChained, held_in, link_at, newest_first, standing}
+use Rattle.scope_pool.specs.declared.scopes.Scope.{Scope}
 use Rattle.scope_pool.specs.Region.{OpenScope}
+use Rattle.std.proofs.lemmas.List.Elements.{All-push}
+use Rattle.scope_pool.proofs.NameLaws.{ascending_push}
 use Rattle.scope_pool.proofs.ScopeLaws.{newest_more, not_used, used_more}
 use Rattle.scope_pool.proofs.pool.Pool.open_scope.Goals as goal
 
@@ -20,6 +23,9 @@ invariant_of-self g c =
       names_left = grind (arith, common_steps, c.self.invariant.names_left);
       names_used = rw c.push_reserved.ensures.items (used_more c.self.inside.scopes.items _ c.self.inside.next_scope c.self.invariant.names_used (grind (arith, common_steps)));
       sound = rw newest (fresh, (rw c.name_of.ensures (rw (← c.self.view_is) at c.requires.parent), c.self.invariant.sound));
+      ascending = rw c.push_reserved.ensures.items (ascending_push c.self.inside.scopes.items _ c.self.invariant.ascending c.self.invariant.names_used);
+      chained = rw c.push_reserved.ensures.items (All-push (λ (s : Scope). IsChained (link_at c.self.inside.slots.items) s.name s.last) c.self.inside.scopes.items _ c.self.invariant.chained (c.self.invariant.unused c.self.inside.next_scope (omega arith)));
+      unused = λ t h. c.self.invariant.unused t (grind (arith, common_steps, h));
     }
 
 pub returns-clause-fresh : goal.returns-clause-fresh

@@ -1,7 +1,9 @@
-use Rattle.std.proofs.Common.{◌∙◌, IsSome, ap, arith, map, subst}
+use Rattle.std.proofs.Common.{◌∙◌, IsSome, None, ap, arith, map, subst}
 use Rattle.std.proofs.lemmas.Grind.{common_steps}
 use Rattle.std.specs.Option.{option_map}
 use Rattle.scope_pool.specs.Layout.{held_in, newest_first, standing}
+use Rattle.scope_pool.proofs.ChainLaws.{chained_same}
+use Rattle.scope_pool.proofs.VacatingLaws.{same_chains}
 use Rattle.scope_pool.proofs.StandingLaws.{get_standing, live_exchanged, standing_exchanged}
 use Rattle.scope_pool.proofs.pool.Pool.set.Goals as goal
 
@@ -20,6 +22,9 @@ invariant_of-self g c = record {
   names_left = c.self.invariant.names_left;
   names_used = c.self.invariant.names_used;
   sound = c.self.invariant.sound;
+  ascending = c.self.invariant.ascending;
+  chained = same_chains c.self.inside.slots.items _ c.self.inside.scopes.items c.exchange.ensures.chains c.self.invariant.chained;
+  unused = λ t h. chained_same _ _ t None c.exchange.ensures.chains (c.self.invariant.unused t h);
 }
 
 pub returns-clause-old : goal.returns-clause-old
