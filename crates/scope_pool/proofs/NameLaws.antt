@@ -1,5 +1,5 @@
 -- Open scopes in the order of their names.
-use Rattle.std.proofs.Common.{◌≡◌, ℕ, zero, suc, ◌==◌, ◌||◌, ◌<◌, ◌≤◌, List, [], ◌∷◌, ◌++◌, length, get_or, set, filter, Option, Result, Ok, Err, true, false, Bool, cond, All, refl, ap, sym, ◌∙◌, arith, subst, inl, inr}
+use Rattle.std.proofs.Common.{◌≡◌, ℕ, zero, suc, ◌==◌, ◌||◌, ◌<◌, ◌≤◌, List, [], ◌∷◌, ◌++◌, length, get_or, set, drop, take, ◌-◌, filter, Option, Result, Ok, Err, true, false, Bool, cond, All, refl, ap, sym, ◌∙◌, arith, subst, inl, inr, Some, None}
 use Rattle.std.proofs.lemmas.Bool.{cases_lt}
 use Rattle.std.proofs.lemmas.Bool.Decides.{nat_tests}
 use Rattle.std.proofs.lemmas.Cmp.{ranked}
@@ -8,7 +8,7 @@ use Rattle.std.proofs.lemmas.List.Folds.{list_any-append}
 use Rattle.std.proofs.Math.ListN.{length-set}
 use Rattle.std.specs.List.Sorted.{IsBinarySearchResult, IsNonDecreasingBy, IsSearchInRange}
 use Rattle.std.specs.Ordering.{nat_cmp, ordering_index}
-use Rattle.scope_pool.specs.Layout.{AreChained, Finds, IsAscending, IsChained, KeepsOthers, KeepsScopes, link_at, newest_first, shown}
+use Rattle.scope_pool.specs.Layout.{AreChained, Finds, IsAscending, IsChained, KeepsOthers, KeepsScopes, link_at, among_maybe, found_from, newest_first, shown}
 use Rattle.scope_pool.specs.Region.{is_open}
 use Rattle.scope_pool.specs.declared.scopes.Scope.{Scope}
 use Rattle.scope_pool.specs.declared.slots.Slot.{Slot}
@@ -112,3 +112,45 @@ module _ {T : Type 0} where
       all_set_but (λ s. IsChained (link_at new) s.name s.last) ss i (record x { last = last }) here (λ j d ne within.
       let apart : ((get_or ss j d).name == x.name) ≡ false = subst (λ (s : Scope). ((get_or ss j d).name == s.name) ≡ false) (is d) (names_apart ss up i j d h within ne) in
       others (get_or ss j d).name (get_or ss j d).last apart (was j d within))
+
+-- ---- where a pass begins
+
+none_among : (o : Option ℕ) → among_maybe [] o ≡ false
+none_among None = refl
+none_among (Some n) = refl
+
+skipped : (outer : ℕ) (ss : List Scope) (i : ℕ) → i ≤ length ss → ((j : ℕ) (d : Scope) → j < i → ((get_or ss j d).name == outer) ≡ false) → found_from outer [] (drop i ss) ≡ found_from outer [] ss
+skipped outer [] zero h below = refl
+skipped outer [] (suc i) h below = refl
+skipped outer (s ∷ ss) zero h below = refl
+skipped outer (s ∷ ss) (suc i) h below =
+    let before : (s.name == outer) ≡ false = below 0 s (omega arith) in
+    let none : among_maybe [] s.parent ≡ false = none_among s.parent in
+    skipped outer ss i (omega arith) (λ j d less. below (suc j) d (omega arith))
+    ∙ ap (λ b. found_from outer (cond b (s.name ∷ []) []) ss) (sym (ap (λ b. b || among_maybe [] s.parent) before ∙ none))
+
+take_whole : (ss : List Scope) → take (length ss) ss ≡ ss
+take_whole [] = refl
+take_whole (s ∷ ss) = ap (λ ts. s ∷ ts) (take_whole ss)
+
+take_none : (n : ℕ) → ◌≡◌ {A = List Scope} (take n []) []
+take_none zero = refl
+take_none (suc n) = refl
+
+take_rest : (ss : List Scope) (i : ℕ) → take (length ss - i) (drop i ss) ≡ drop i ss
+take_rest [] zero = refl
+take_rest [] (suc i) = take_none (length {A = Scope} [] - suc i)
+take_rest (s ∷ ss) zero =
+    let all : length (s ∷ ss) - 0 ≡ suc (length ss) = omega arith in
+    ap (λ n. take n (s ∷ ss)) all ∙ take_whole (s ∷ ss)
+take_rest (s ∷ ss) (suc i) =
+    let fewer : length (s ∷ ss) - suc i ≡ length ss - i = omega arith in
+    ap (λ n. take n (drop i ss)) fewer ∙ take_rest ss i
+
+-- no older scope is within one
+pub found_newer : (outer : ℕ) (ss : List Scope) (i : ℕ) → IsAscending ss → i < length ss → ((d : Scope) → (get_or ss i d).name ≡ outer) →
+    found_from outer [] (take (length ss - i) (drop i ss)) ≡ found_from outer [] ss
+found_newer outer ss i up h named =
+    ap (found_from outer []) (take_rest ss i) ∙ skipped outer ss i (omega (arith, h)) (λ j d less.
+    let below : (get_or ss j d).name < (get_or ss i d).name = ascending_at ss up j i d less h in
+    grind (arith, nat_tests, below, named d))

@@ -54,12 +54,15 @@ pub(crate) fn reserve_scopes(
 
 /// The names of an outer scope and of all that are nested in it.
 pub(crate) fn find_within(scopes: &[Scope], outer: u64, found: &mut Vec<u64>)
+    requires ascending { IsAscending scopes.now }
+    requires open { IsOpen (newest_first scopes.now) outer }
     requires none { found.old.items ≡ [] }
     requires room { length scopes.now ≤ vec_capacity found.old }
     ensures found { found.new.items ≡ found_from outer [] scopes.now }
     ensures capacity { vec_capacity found.new ≡ vec_capacity found.old }
 {
-    for scope in scopes {
+    let newer = &scopes[index_of(scopes, outer)..];
+    for scope in newer {
         if scope.name == outer || is_among(found.as_slice(), scope.parent) {
             found.push_reserved(scope.name);
         }
