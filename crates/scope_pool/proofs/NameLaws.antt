@@ -1,14 +1,15 @@
 -- Open scopes in the order of their names.
-use Rattle.std.proofs.Common.{◌≡◌, ℕ, zero, suc, ◌==◌, ◌||◌, ◌<◌, ◌≤◌, List, [], ◌∷◌, ◌++◌, length, get_or, set, drop, take, ◌-◌, filter, Option, Result, Ok, Err, true, false, Bool, cond, All, refl, ap, sym, ◌∙◌, arith, subst, inl, inr, Some, None}
+use Rattle.std.proofs.Common.{not, ◌≡◌, ℕ, zero, suc, ◌==◌, ◌||◌, ◌<◌, ◌≤◌, List, [], ◌∷◌, ◌++◌, length, get_or, set, drop, take, ◌-◌, filter, Option, Result, Ok, Err, true, false, Bool, cond, All, refl, ap, sym, ◌∙◌, arith, subst, inl, inr, Some, None}
 use Rattle.std.proofs.lemmas.Bool.{cases_lt}
 use Rattle.std.proofs.lemmas.Bool.Decides.{nat_tests}
 use Rattle.std.proofs.lemmas.Cmp.{ranked}
 use Rattle.std.proofs.lemmas.List.Elements.{All-filter, All-push, All-set, All-tail}
 use Rattle.std.proofs.lemmas.List.Folds.{list_any-append}
 use Rattle.std.proofs.Math.ListN.{length-set}
+use Rattle.std.specs.List.{remove}
 use Rattle.std.specs.List.Sorted.{IsBinarySearchResult, IsNonDecreasingBy, IsSearchInRange}
 use Rattle.std.specs.Ordering.{nat_cmp, ordering_index}
-use Rattle.scope_pool.specs.Layout.{AreChained, Finds, IsAscending, IsChained, KeepsOthers, KeepsScopes, link_at, among_maybe, found_from, newest_first, shown}
+use Rattle.scope_pool.specs.Layout.{AreChained, Finds, IsAscending, IsChained, KeepsOthers, KeepsScopes, link_at, among, among_maybe, found_from, newest_first, shown}
 use Rattle.scope_pool.specs.Region.{is_open}
 use Rattle.scope_pool.specs.declared.scopes.Scope.{Scope}
 use Rattle.scope_pool.specs.declared.slots.Slot.{Slot}
@@ -154,3 +155,33 @@ found_newer outer ss i up h named =
     ap (found_from outer []) (take_rest ss i) ∙ skipped outer ss i (omega (arith, h)) (λ j d less.
     let below : (get_or ss j d).name < (get_or ss i d).name = ascending_at ss up j i d less h in
     grind (arith, nat_tests, below, named d))
+
+-- ---- one scope goes
+
+kept_above : (n : ℕ) (ss : List Scope) → All (λ t. n < t.name) ss → filter (λ s. not (among (n ∷ []) s.name)) ss ≡ ss
+kept_above n [] above = refl
+kept_above n (s ∷ ss) above =
+    let more : n < s.name = above 0 s (omega arith) in
+    let differ : (n == s.name) ≡ false = grind (arith, nat_tests, more) in
+    let rest = kept_above n ss (All-tail (λ t. n < t.name) s ss above) in
+    ap (λ b. cond (not (b || false)) (s ∷ filter (λ s. not (among (n ∷ []) s.name)) ss) (filter (λ s. not (among (n ∷ []) s.name)) ss)) differ ∙ ap (λ ts. s ∷ ts) rest
+
+-- the scopes without one are those of other names
+pub removed : (n : ℕ) (ss : List Scope) (i : ℕ) → IsAscending ss → i < length ss → ((d : Scope) → (get_or ss i d).name ≡ n) → remove ss i ≡ filter (λ s. not (among (n ∷ []) s.name)) ss
+removed n [] i up h named = absurd (omega arith)
+removed n (s ∷ ss) zero up h named =
+    let here : s.name ≡ n = named s in
+    let same : (n == s.name) ≡ true = grind (arith, nat_tests, here) in
+    let rest = kept_above n ss (subst (λ m. All (λ t. m < t.name) ss) here up.0) in
+    sym rest ∙ ap (λ b. cond (not (b || false)) (s ∷ filter (λ s. not (among (n ∷ []) s.name)) ss) (filter (λ s. not (among (n ∷ []) s.name)) ss)) (sym same)
+removed n (s ∷ ss) (suc i) up h named =
+    let less : s.name < n = subst (λ m. s.name < m) (named s) (up.0 i s (omega arith)) in
+    let differ : (n == s.name) ≡ false = grind (arith, nat_tests, less) in
+    ap (λ ts. s ∷ ts) (removed n ss i up.1 (omega arith) named)
+    ∙ ap (λ b. cond (not (b || false)) (s ∷ filter (λ s. not (among (n ∷ []) s.name)) ss) (filter (λ s. not (among (n ∷ []) s.name)) ss)) (sym differ)
+
+pub removed_one : (ns : List ℕ) (ss : List Scope) (i : ℕ) → length ns ≡ 1 → IsAscending ss → i < length ss → ((d : Scope) → (get_or ss i d).name ≡ get_or ns 0 0) →
+    remove ss i ≡ filter (λ s. not (among ns s.name)) ss
+removed_one [] ss i one up h named = absurd (omega (arith, one))
+removed_one (n ∷ []) ss i one up h named = removed n ss i up h named
+removed_one (n ∷ m ∷ ns) ss i one up h named = absurd (omega (arith, one))

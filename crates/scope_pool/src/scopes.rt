@@ -1,5 +1,5 @@
 //! Open scopes in the order in which they were opened, so that a parent stands before its children.
-ghost use Rattle.std.specs.Prelude.{◌≡◌, ◌+◌, ◌<◌, ◌≤◌, [], slice_index_or, filter, not, length, map, OnOk, vec_capacity, vec_len};
+ghost use Rattle.std.specs.Prelude.{All, ◌≡◌, ◌+◌, ◌<◌, ◌≤◌, [], slice_index_or, filter, not, length, map, OnOk, vec_capacity, vec_len};
 ghost use Rattle.scope_pool.specs.Layout.{among, among_maybe, found_from, newest_first, Finds, IsAscending};
 ghost use Rattle.scope_pool.specs.Region.{IsOpen};
 ghost use Rattle.scope_pool.specs.declared.scopes.Scope.{Scope};
@@ -80,12 +80,19 @@ fn is_among(names: &[u64], name: Option<u64>) -> bool
 
 /// Drops the scopes of these names.
 pub(crate) fn drop_scopes(scopes: &mut Vec<Scope>, closing: &[u64])
+    requires ascending { IsAscending scopes.old.items }
+    requires open { All (λ n. IsOpen (newest_first scopes.old.items) n) closing.now }
     ensures left { scopes.new.items
         ≡ filter (λ s. not (among closing.now s.name)) scopes.old.items }
     ensures len { vec_len scopes.new ≤ vec_len scopes.old }
     ensures capacity { vec_capacity scopes.new ≡ vec_capacity scopes.old }
 {
-    scopes.retain(|scope| stays(scope, closing));
+    if let [name] = closing {
+        let index = index_of(scopes.as_slice(), *name);
+        let _closed = scopes.remove(index);
+    } else {
+        scopes.retain(|scope| stays(scope, closing));
+    }
 }
 
 fn stays(scope: &Scope, closing: &[u64]) -> bool

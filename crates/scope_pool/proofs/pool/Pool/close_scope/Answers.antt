@@ -13,6 +13,14 @@ vacate_all-requires-clause-open g c =
     let found : c.as_slice-2.result.now ≡ found_from c.args.scope.name [] c.self.inside.scopes.items = grind (arith, common_steps) in
     rw found (found_open c.args.scope.name c.self.inside.scopes.items)
 
+pub drop_scopes-requires-clause-ascending : goal.drop_scopes-requires-clause-ascending
+drop_scopes-requires-clause-ascending g c = c.vacate_all.ensures.scopes.ascending c.self.invariant.ascending
+
+pub drop_scopes-requires-clause-open : goal.drop_scopes-requires-clause-open
+drop_scopes-requires-clause-open g c =
+    let found : c.as_slice-3.result.now ≡ found_from c.args.scope.name [] c.self.inside.scopes.items = grind (arith, common_steps) in
+    rw (found, c.vacate_all.ensures.scopes.seen) (found_open c.args.scope.name c.self.inside.scopes.items)
+
 pub invariant_of-self : goal.invariant_of-self
 invariant_of-self g c =
     let kept = c.vacate_all.ensures.scopes in
