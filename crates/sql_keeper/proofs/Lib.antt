@@ -27,3 +27,5 @@ pub mod OldResults
 pub mod OldLogs
 pub mod Dropping
 pub mod Moved
+pub mod MetaCheck
+pub mod Refused

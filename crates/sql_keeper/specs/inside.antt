@@ -4,6 +4,7 @@ pub mod Steps
 pub mod ShownRows
 pub mod Borrowed
 pub mod Keeping
+pub mod Nodes
 pub mod Indexes
 pub mod Fresh
 pub mod Adopting

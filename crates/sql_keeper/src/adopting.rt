@@ -1,5 +1,6 @@
 //! Connections that a keeper takes.
-ghost use Rattle.std.specs.Prelude.{◌≡◌, IfOk, false};
+ghost use Rattle.std.specs.Prelude.{◌≡◌, IfErr, IfOk, false};
+ghost use Rattle.sql_keeper.specs.Refusals.{FailsToAdopt};
 ghost use Rattle.sql_keeper.specs.inside.Calls.{AdoptedFrom, IsKeyedIn, IsOpened, ShowsLastOf};
 
 use crate::known::{is_blank, is_current, is_first};
@@ -13,6 +14,7 @@ fn reopened<S: Alter + Drop>(alloc: Global, conn: Connection<S>) -> Result<Conne
     ensures keyed { IfOk result (IsKeyedIn S.Store) }
     ensures idle { IfOk result (λ c. c.in_transaction ≡ false) }
     ensures same { IfOk result (ShowsLastOf S.Store conn) }
+    ensures cause { IfErr result (FailsToAdopt S.Store conn) }
 {
     let store = conn.into_store();
     if store.is_broken() {
@@ -32,6 +34,7 @@ pub(crate) fn adopted<S: Alter + Drop>(
 ) -> Result<(Connection<S>, bool), Error>
     ensures idle { IfOk result (λ a. a.0.in_transaction ≡ false) }
     ensures adopted { IfOk result (λ a. AdoptedFrom S.Store conn a.0 a.1) }
+    ensures cause { IfErr result (FailsToAdopt S.Store conn) }
 {
     let mut conn = reopened(alloc, conn)?;
     if is_blank(conn.schema()) {

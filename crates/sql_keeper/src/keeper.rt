@@ -3,6 +3,7 @@ ghost use Rattle.std.specs.Prelude.{◌≡◌, IfOk, IsTrue};
 ghost use Rattle.sqlite.specs.Held.{state};
 ghost use Rattle.keeper_core.specs.EitherSchema.{migrated};
 ghost use Rattle.keeper_core.specs.KeeperCalls.{LeavesEither, MigrateCause, Migrates};
+ghost use Rattle.sql_keeper.specs.Refusals.{FaultsIfRefused, fault_of};
 ghost use Rattle.sql_keeper.specs.inside.Keeping.{Refuses, unmigrated};
 ghost use Rattle.sql_keeper.specs.Kept.{AdoptsLast, LeavesWithin, known_of};
 
@@ -51,6 +52,7 @@ impl<S: Alter + Drop> SqlKeeper<S> {
     pub fn adopt(alloc: Global, conn: Connection<S>) -> Result<SqlKeeper<S>, KeepFault>
         ensures begins { IfOk result (λ k. k.faults ≡ 0) }
         ensures tables { IfOk result (AdoptsLast S.Store conn) }
+        ensures cause { FaultsIfRefused S.Store conn result }
     {
         match adopted(alloc, conn) {
             Ok((conn, is_old)) => Ok(SqlKeeper {
@@ -59,8 +61,7 @@ impl<S: Alter + Drop> SqlKeeper<S> {
                 is_old,
                 faults: 0,
             }),
-            Err(Error::SqliteFailure(ErrorCode::OutOfMemory)) => Err(KeepFault::NoMemory),
-            Err(_) => Err(KeepFault::Fault),
+            Err(error) => Err(fault_of(error)),
         }
     }
 
@@ -71,6 +72,16 @@ impl<S: Alter + Drop> SqlKeeper<S> {
     {
         let SqlKeeper { conn, .. } = self;
         conn
+    }
+}
+
+/// Out of memory stays, and each other error is a fault.
+fn fault_of(error: Error) -> KeepFault
+    ensures { result ≡ fault_of error }
+{
+    match error {
+        Error::SqliteFailure(ErrorCode::OutOfMemory) => KeepFault::NoMemory,
+        _ => KeepFault::Fault,
     }
 }
 

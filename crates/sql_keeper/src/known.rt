@@ -1,8 +1,10 @@
 //! Whether a schema is the one that a keeper makes, or the one before it.
-ghost use Rattle.std.specs.Prelude.{◌≡◌, IsTrue, Some, None, [], ◌∷◌, pos};
+ghost use Rattle.std.specs.Prelude.{◌≡◌, ◌↔◌, IsTrue, Some, None, [], ◌∷◌, pos};
 ghost use Rattle.sqlite_catalog.specs.Listing.{automatic};
+ghost use Rattle.sqlite_schema.specs.Code.{term_in};
 ghost use Rattle.sqlite_value.specs.Keys.{plain};
-ghost use Rattle.sql_keeper.specs.inside.Schemas.{column_of, keeper_schema, no_schema};
+ghost use Rattle.sql_keeper.specs.inside.Nodes.{op_at};
+ghost use Rattle.sql_keeper.specs.inside.Schemas.{IsSimple, id_is_one, column_of, keeper_schema, no_schema};
 ghost use Rattle.sql_keeper.specs.inside.Schemas.{number_columns, old_schema, the_cache};
 ghost use Rattle.sql_keeper.specs.inside.Indexes.{index_of};
 ghost use Rattle.sql_keeper.specs.inside.Schemas.{the_inputs, the_logs, the_meta, the_old_cache};
@@ -15,63 +17,70 @@ use sqlite_value::keys::{Collation, Order};
 use sqlite_value::value::Value;
 
 fn is_name(name: &[u8], wanted: &[u8]) -> bool
-    ensures { IsTrue result → name.now ≡ wanted.now }
+    ensures is { IsTrue result → name.now ≡ wanted.now }
+    ensures exact { name.now ≡ wanted.now → IsTrue result }
 {
     name == wanted
 }
 
 fn are_places(places: &[usize], wanted: &[usize]) -> bool
-    ensures { IsTrue result → places.now ≡ wanted.now }
+    ensures is { IsTrue result → places.now ≡ wanted.now }
+    ensures exact { places.now ≡ wanted.now → IsTrue result }
 {
     places == wanted
 }
 
 fn is_null(value: &Value) -> bool
-    ensures { IsTrue result → value.now ≡ Value.Null }
+    ensures is { IsTrue result → value.now ≡ Value.Null }
+    ensures exact { value.now ≡ Value.Null → IsTrue result }
 {
     matches!(value, Value::Null)
 }
 
-fn is_one(value: &Value) -> bool
-    ensures { IsTrue result → value.now ≡ Value.Int (pos 1) }
-{
-    matches!(value, Value::Int(1))
-}
-
 fn is_equality(op: &BinaryOp) -> bool
-    ensures { IsTrue result → op.now ≡ BinaryOp.Compare CompareOp.Eq Collation.Binary }
+    ensures is { IsTrue result → op.now ≡ BinaryOp.Compare CompareOp.Eq Collation.Binary }
+    ensures exact { op.now ≡ BinaryOp.Compare CompareOp.Eq Collation.Binary → IsTrue result }
 {
     matches!(op, BinaryOp::Compare(CompareOp::Eq, Collation::Binary))
 }
 
+fn is_id(nodes: &[Op], at: usize) -> bool
+    ensures { IsTrue result ↔ (op_at nodes.now at ≡ Op.Column 1 0) }
+{
+    matches!(nodes.get(at), Some(Op::Column(1, 0)))
+}
+
+fn is_one(nodes: &[Op], at: usize) -> bool
+    ensures { IsTrue result ↔ (op_at nodes.now at ≡ Op.Literal (Value.Int (pos 1))) }
+{
+    matches!(nodes.get(at), Some(Op::Literal(Value::Int(1))))
+}
+
+/// The term `id = 1`, from the place of its root.
+fn is_meta_term(nodes: &[Op], root: usize) -> bool
+    ensures { IsTrue result ↔ (term_in nodes.now root ≡ id_is_one) }
+{
+    let Some(Op::Binary(op, id, number)) = nodes.get(root) else {
+        return false;
+    };
+    is_equality(op) && is_id(nodes, *id) && is_one(nodes, *number)
+}
+
 /// The text `id = 1`.
 fn is_meta_check(checks: &Terms) -> bool
-    ensures { IsTrue result → checks.now ≡ the_meta.checks }
+    ensures is { IsTrue result → checks.now ≡ the_meta.checks }
+    ensures exact { checks.now ≡ the_meta.checks → IsTrue result }
 {
-    let [id, number, test] = checks.nodes.as_slice() else {
+    let [root] = checks.roots.as_slice() else {
         return false;
     };
-    let Op::Column(slot, at) = id else {
-        return false;
-    };
-    let Op::Literal(value) = number else {
-        return false;
-    };
-    let Op::Binary(op, first, second) = test else {
-        return false;
-    };
-    *slot == 1
-        && *at == 0
-        && is_one(value)
-        && is_equality(op)
-        && *first == 0
-        && *second == 1
-        && are_places(checks.roots.as_slice(), &[2])
+    is_meta_term(checks.nodes.as_slice(), *root)
 }
 
 /// A STRICT column that is NOT NULL.
 fn is_column(column: &Column, name: &[u8], kind: Kind) -> bool
-    ensures { IsTrue result → column.now ≡ column_of name.now kind }
+    ensures is { IsTrue result → column.now ≡ column_of name.now kind }
+    ensures exact { column.now ≡ column_of name.now kind → IsTrue result }
 {
     is_name(column.name.as_slice(), name)
         && column.kind == kind
@@ -82,7 +91,8 @@ fn is_column(column: &Column, name: &[u8], kind: Kind) -> bool
 }
 
 fn are_meta_columns(columns: &[Column]) -> bool
-    ensures { IsTrue result → columns.now ≡ the_meta.columns }
+    ensures is { IsTrue result → columns.now ≡ the_meta.columns }
+    ensures exact { columns.now ≡ the_meta.columns → IsTrue result }
 {
     let [id, format, next_job] = columns else {
         return false;
@@ -93,7 +103,8 @@ fn are_meta_columns(columns: &[Column]) -> bool
 }
 
 fn are_input_columns(columns: &[Column]) -> bool
-    ensures { IsTrue result → columns.now ≡ the_inputs.columns }
+    ensures is { IsTrue result → columns.now ≡ the_inputs.columns }
+    ensures exact { columns.now ≡ the_inputs.columns → IsTrue result }
 {
     let [name, literal] = columns else {
         return false;
@@ -102,7 +113,8 @@ fn are_input_columns(columns: &[Column]) -> bool
 }
 
 fn are_number_columns(columns: &[Column]) -> bool
-    ensures { IsTrue result → columns.now ≡ number_columns }
+    ensures is { IsTrue result → columns.now ≡ number_columns }
+    ensures exact { columns.now ≡ number_columns → IsTrue result }
 {
     let [finished, job, rebuild] = columns else {
         return false;
@@ -113,7 +125,8 @@ fn are_number_columns(columns: &[Column]) -> bool
 }
 
 fn are_value_columns(columns: &[Column]) -> bool
-    ensures { IsTrue result → columns.now ≡ value_columns }
+    ensures is { IsTrue result → columns.now ≡ value_columns }
+    ensures exact { columns.now ≡ value_columns → IsTrue result }
 {
     let [cvalue, fine, result, numbers @ ..] = columns else {
         return false;
@@ -125,7 +138,8 @@ fn are_value_columns(columns: &[Column]) -> bool
 }
 
 fn are_cache_columns(columns: &[Column]) -> bool
-    ensures { IsTrue result → columns.now ≡ the_cache.columns }
+    ensures is { IsTrue result → columns.now ≡ the_cache.columns }
+    ensures exact { columns.now ≡ the_cache.columns → IsTrue result }
 {
     let [op, khash, ckey, values @ ..] = columns else {
         return false;
@@ -137,7 +151,8 @@ fn are_cache_columns(columns: &[Column]) -> bool
 }
 
 fn are_old_columns(columns: &[Column]) -> bool
-    ensures { IsTrue result → columns.now ≡ the_old_cache.columns }
+    ensures is { IsTrue result → columns.now ≡ the_old_cache.columns }
+    ensures exact { columns.now ≡ the_old_cache.columns → IsTrue result }
 {
     let [op, ckey, values @ ..] = columns else {
         return false;
@@ -148,7 +163,8 @@ fn are_old_columns(columns: &[Column]) -> bool
 }
 
 fn are_log_columns(columns: &[Column]) -> bool
-    ensures { IsTrue result → columns.now ≡ the_logs.columns }
+    ensures is { IsTrue result → columns.now ≡ the_logs.columns }
+    ensures exact { columns.now ≡ the_logs.columns → IsTrue result }
 {
     let [job, output] = columns else {
         return false;
@@ -157,9 +173,17 @@ fn are_log_columns(columns: &[Column]) -> bool
 }
 
 fn has_no_stamps(stamps: &Stamps) -> bool
-    ensures { IsTrue result → stamps.now ≡ the_meta.stamps }
+    ensures is { IsTrue result → stamps.now ≡ the_meta.stamps }
+    ensures exact { stamps.now ≡ the_meta.stamps → IsTrue result }
 {
-    stamps.places.is_empty() && stamps.terms.roots.is_empty() && stamps.formats.is_empty()
+    stamps.places.is_empty() && has_no_terms(&stamps.terms) && stamps.formats.is_empty()
+}
+
+fn has_no_terms(terms: &Terms) -> bool
+    ensures is { IsTrue result → terms.now ≡ [] }
+    ensures exact { terms.now ≡ [] → IsTrue result }
+{
+    terms.roots.is_empty()
 }
 
 /// Whether nothing more is asked of a row.
@@ -168,6 +192,7 @@ fn is_simple(table: &Table) -> bool
     ensures computed { IsTrue result → table.now.computed ≡ [] }
     ensures stamps { IsTrue result → table.now.stamps ≡ the_meta.stamps }
     ensures counted { IsTrue result → table.now.is_counted ≡ the_meta.is_counted }
+    ensures exact { IsSimple table.now → IsTrue result }
 {
     table.references.is_empty()
         && table.computed.is_empty()
@@ -176,7 +201,8 @@ fn is_simple(table: &Table) -> bool
 }
 
 fn is_meta(table: &Table) -> bool
-    ensures { IsTrue result → table.now ≡ the_meta }
+    ensures is { IsTrue result → table.now ≡ the_meta }
+    ensures exact { table.now ≡ the_meta → IsTrue result }
 {
     is_name(table.name.as_slice(), b"meta")
         && table.tree == 0
@@ -190,7 +216,8 @@ fn is_meta(table: &Table) -> bool
 }
 
 fn is_inputs(table: &Table) -> bool
-    ensures { IsTrue result → table.now ≡ the_inputs }
+    ensures is { IsTrue result → table.now ≡ the_inputs }
+    ensures exact { table.now ≡ the_inputs → IsTrue result }
 {
     let [unique] = table.uniques.as_slice() else {
         return false;
@@ -205,12 +232,13 @@ fn is_inputs(table: &Table) -> bool
         && are_places(table.primary.as_slice(), &[1])
         && are_places(unique.as_slice(), &[1])
         && order.digits == 0
-        && table.checks.roots.is_empty()
+        && has_no_terms(&table.checks)
         && is_simple(table)
 }
 
 fn is_cache(table: &Table) -> bool
-    ensures { IsTrue result → table.now ≡ the_cache }
+    ensures is { IsTrue result → table.now ≡ the_cache }
+    ensures exact { table.now ≡ the_cache → IsTrue result }
 {
     let [unique] = table.uniques.as_slice() else {
         return false;
@@ -225,12 +253,13 @@ fn is_cache(table: &Table) -> bool
         && are_places(table.primary.as_slice(), &[1, 2, 3])
         && are_places(unique.as_slice(), &[1, 2, 3])
         && order.digits == 0
-        && table.checks.roots.is_empty()
+        && has_no_terms(&table.checks)
         && is_simple(table)
 }
 
 fn is_old_cache(table: &Table) -> bool
-    ensures { IsTrue result → table.now ≡ the_old_cache }
+    ensures is { IsTrue result → table.now ≡ the_old_cache }
+    ensures exact { table.now ≡ the_old_cache → IsTrue result }
 {
     let [unique] = table.uniques.as_slice() else {
         return false;
@@ -245,12 +274,13 @@ fn is_old_cache(table: &Table) -> bool
         && are_places(table.primary.as_slice(), &[1, 2])
         && are_places(unique.as_slice(), &[1, 2])
         && order.digits == 0
-        && table.checks.roots.is_empty()
+        && has_no_terms(&table.checks)
         && is_simple(table)
 }
 
 fn is_logs(table: &Table) -> bool
-    ensures { IsTrue result → table.now ≡ the_logs }
+    ensures is { IsTrue result → table.now ≡ the_logs }
+    ensures exact { table.now ≡ the_logs → IsTrue result }
 {
     is_name(table.name.as_slice(), b"logs")
         && table.tree == 5
@@ -259,19 +289,21 @@ fn is_logs(table: &Table) -> bool
         && are_places(table.primary.as_slice(), &[0])
         && table.uniques.is_empty()
         && table.orders.is_empty()
-        && table.checks.roots.is_empty()
+        && has_no_terms(&table.checks)
         && is_simple(table)
 }
 
 fn is_plain(order: Order) -> bool
-    ensures { IsTrue result → order ≡ plain }
+    ensures is { IsTrue result → order ≡ plain }
+    ensures exact { order ≡ plain → IsTrue result }
 {
     order.digits == 0
 }
 
 /// The index that the engine makes for the only key of a table.
 fn is_index(index: &Index, name: &[u8], table: u32, places: &[usize]) -> bool
-    ensures { IsTrue result → index.now ≡ index_of name.now table index.now.tree places.now }
+    ensures is { IsTrue result → index.now ≡ index_of name.now table index.now.tree places.now }
+    ensures exact { index.now ≡ index_of name.now table index.now.tree places.now → IsTrue result }
 {
     is_name(index.name.as_slice(), name)
         && index.table == table
@@ -281,25 +313,29 @@ fn is_index(index: &Index, name: &[u8], table: u32, places: &[usize]) -> bool
 }
 
 fn is_input_index(index: &Index) -> bool
-    ensures { IsTrue result → index.now ≡ automatic the_inputs 0 (1 ∷ []) 2 }
+    ensures is { IsTrue result → index.now ≡ automatic the_inputs 0 (1 ∷ []) 2 }
+    ensures exact { index.now ≡ automatic the_inputs 0 (1 ∷ []) 2 → IsTrue result }
 {
     index.tree == 2 && is_index(index, b"sqlite_autoindex_inputs_1", 1, &[1])
 }
 
 fn is_cache_index(index: &Index) -> bool
-    ensures { IsTrue result → index.now ≡ automatic the_cache 0 (1 ∷ 2 ∷ 3 ∷ []) 4 }
+    ensures is { IsTrue result → index.now ≡ automatic the_cache 0 (1 ∷ 2 ∷ 3 ∷ []) 4 }
+    ensures exact { index.now ≡ automatic the_cache 0 (1 ∷ 2 ∷ 3 ∷ []) 4 → IsTrue result }
 {
     index.tree == 4 && is_index(index, b"sqlite_autoindex_cache2_1", 3, &[1, 2, 3])
 }
 
 fn is_old_index(index: &Index) -> bool
-    ensures { IsTrue result → index.now ≡ automatic the_old_cache 0 (1 ∷ 2 ∷ []) 4 }
+    ensures is { IsTrue result → index.now ≡ automatic the_old_cache 0 (1 ∷ 2 ∷ []) 4 }
+    ensures exact { index.now ≡ automatic the_old_cache 0 (1 ∷ 2 ∷ []) 4 → IsTrue result }
 {
     index.tree == 4 && is_index(index, b"sqlite_autoindex_cache_1", 3, &[1, 2])
 }
 
 fn are_tables(tables: &[Table]) -> bool
-    ensures { IsTrue result → tables.now ≡ keeper_schema.tables }
+    ensures is { IsTrue result → tables.now ≡ keeper_schema.tables }
+    ensures exact { tables.now ≡ keeper_schema.tables → IsTrue result }
 {
     let [meta, inputs, cache, logs] = tables else {
         return false;
@@ -308,7 +344,8 @@ fn are_tables(tables: &[Table]) -> bool
 }
 
 fn are_indexes(indexes: &[Index]) -> bool
-    ensures { IsTrue result → indexes.now ≡ keeper_schema.indexes }
+    ensures is { IsTrue result → indexes.now ≡ keeper_schema.indexes }
+    ensures exact { indexes.now ≡ keeper_schema.indexes → IsTrue result }
 {
     let [inputs, cache] = indexes else {
         return false;
@@ -317,7 +354,8 @@ fn are_indexes(indexes: &[Index]) -> bool
 }
 
 fn are_old_tables(tables: &[Table]) -> bool
-    ensures { IsTrue result → tables.now ≡ old_schema.tables }
+    ensures is { IsTrue result → tables.now ≡ old_schema.tables }
+    ensures exact { tables.now ≡ old_schema.tables → IsTrue result }
 {
     let [meta, inputs, cache, logs] = tables else {
         return false;
@@ -326,7 +364,8 @@ fn are_old_tables(tables: &[Table]) -> bool
 }
 
 fn are_old_indexes(indexes: &[Index]) -> bool
-    ensures { IsTrue result → indexes.now ≡ old_schema.indexes }
+    ensures is { IsTrue result → indexes.now ≡ old_schema.indexes }
+    ensures exact { indexes.now ≡ old_schema.indexes → IsTrue result }
 {
     let [inputs, cache] = indexes else {
         return false;
@@ -336,7 +375,8 @@ fn are_old_indexes(indexes: &[Index]) -> bool
 
 /// Whether a schema has the tables of the second schema, and nothing else.
 pub(crate) fn is_current(schema: &Schema) -> bool
-    ensures { IsTrue result → schema.now ≡ keeper_schema }
+    ensures is { IsTrue result → schema.now ≡ keeper_schema }
+    ensures exact { schema.now ≡ keeper_schema → IsTrue result }
 {
     are_tables(schema.tables.as_slice())
         && are_indexes(schema.indexes.as_slice())
@@ -345,7 +385,8 @@ pub(crate) fn is_current(schema: &Schema) -> bool
 
 /// Whether a schema has the tables of the first schema, and nothing else.
 pub(crate) fn is_first(schema: &Schema) -> bool
-    ensures { IsTrue result → schema.now ≡ old_schema }
+    ensures is { IsTrue result → schema.now ≡ old_schema }
+    ensures exact { schema.now ≡ old_schema → IsTrue result }
 {
     are_old_tables(schema.tables.as_slice())
         && are_old_indexes(schema.indexes.as_slice())
@@ -354,7 +395,8 @@ pub(crate) fn is_first(schema: &Schema) -> bool
 
 /// Whether a schema has no table, and nothing else.
 pub(crate) fn is_blank(schema: &Schema) -> bool
-    ensures { IsTrue result → schema.now ≡ no_schema }
+    ensures is { IsTrue result → schema.now ≡ no_schema }
+    ensures exact { schema.now ≡ no_schema → IsTrue result }
 {
     schema.tables.is_empty() && schema.indexes.is_empty() && schema.views.is_empty()
 }

@@ -1,9 +1,9 @@
 -- The tables as the engine knows them, and the texts of the statements.
 use Rattle.sqlite.specs.Collation.TheVariants.{Binary}
-use Rattle.std.specs.Prelude.{Bool, true, false, [], ◌∷◌, Some, None, codes, List, ℕ, pos}
+use Rattle.std.specs.Prelude.{◌≡◌, Bool, true, false, [], ◌∷◌, Some, None, codes, List, ℕ, pos}
 use Rattle.sqlite.specs.declared.types.Value.TheVariants.{Null, Int}
 use Rattle.sqlite.specs.Change.{created}
-use Rattle.sqlite.specs.Term.{lit, col, op2}
+use Rattle.sqlite.specs.Term.{Term, lit, col, op2}
 use Rattle.sqlite_sql.specs.declared.ops.BinaryOp.TheVariants.{Compare}
 use Rattle.sqlite_sql.specs.declared.ops.CompareOp.TheVariants.{Eq}
 use Rattle.sqlite_schema.specs.declared.schema.Column.{Column}
@@ -23,6 +23,10 @@ no_schema = record { tables = []; indexes = []; views = [] }
 abbrev pub column_of : List ℕ → Kind → Column
 column_of name kind = record { name = name; kind = kind; is_strict = true; not_null = true; default = Null; collation = Binary }
 
+-- the term `id = 1` over a row of numbers
+abbrev pub id_is_one : Term
+id_is_one = op2 (Compare Eq Binary) (col 1 0) (lit (Int (pos 1)))
+
 -- the table of numbers
 abbrev pub meta : Table
 meta = record {
@@ -33,7 +37,7 @@ meta = record {
   primary = 0 ∷ [];
   uniques = [];
   orders = [];
-  checks = op2 (Compare Eq Binary) (col 1 0) (lit (Int (pos 1))) ∷ [];
+  checks = id_is_one ∷ [];
   references = [];
   computed = [];
   stamps = record { places = []; terms = []; formats = [] };
@@ -148,6 +152,13 @@ the_old_cache = record old_cache { tree = 3 }
 -- the table of outputs in its tree
 abbrev pub the_logs : Table
 the_logs = record logs { tree = 5 }
+
+-- nothing more is asked of a row than by its columns, its keys and its checks
+pub record IsSimple (t : Table) : Type 0 where
+  pub references : t.references ≡ []
+  pub computed : t.computed ≡ []
+  pub stamps : t.stamps ≡ the_meta.stamps
+  pub counted : t.is_counted ≡ false
 
 -- ---- the texts that make the tables
 
