@@ -4,7 +4,7 @@ use Rattle.clap.proofs.OnLiterals.{clap_on_literals}
 use Rattle.op_keys.specs.declared.level.Level.TheVariants.{Average}
 use Rattle.pipe_text.specs.Words.{level_word}
 use Rattle.command_words.specs.Commands.{command_of}
-use Rattle.command_words.specs.declared.command.Command.TheVariants.{Run, Check, Jobs, Stats, Log, Migrate}
+use Rattle.command_words.specs.declared.command.Command.TheVariants.{Run, Check, Jobs, Stats, Log, Make, Migrate}
 
 -- ---- commands
 
@@ -27,6 +27,10 @@ results = refl
 log : command_of (codes "log" ∷ codes "--store" ∷ codes "s" ∷ codes "7" ∷ []) ≡ Some (Log 7 (codes "s"))
 unfolding command_of clap_on_literals
 log = refl
+
+most_nodes : command_of (codes "make" ∷ codes "1000" ∷ []) ≡ Some (Make 1000)
+unfolding command_of clap_on_literals
+most_nodes = refl
 
 -- `--x=v` is `--x v`, for a value that begins with `-` too
 hyphen_value : command_of (codes "stats" ∷ codes "--store=-x" ∷ []) ≡ Some (Stats (codes "-x"))
@@ -91,6 +95,14 @@ lone_hyphen = refl
 leading_zero : command_of (codes "log" ∷ codes "07" ∷ codes "--store=s" ∷ []) ≡ None
 unfolding command_of clap_on_literals
 leading_zero = refl
+
+no_nodes : command_of (codes "make" ∷ codes "0" ∷ []) ≡ None
+unfolding command_of clap_on_literals
+no_nodes = refl
+
+too_many_nodes : command_of (codes "make" ∷ codes "1001" ∷ []) ≡ None
+unfolding command_of clap_on_literals
+too_many_nodes = refl
 
 signed : command_of (codes "log" ∷ codes "+7" ∷ codes "--store=s" ∷ []) ≡ None
 unfolding command_of clap_on_literals

@@ -1,13 +1,13 @@
 -- Which words are which command.
-use Rattle.std.specs.Prelude.{ℕ, List, [], ◌∷◌, Option, Some, None, codes, if◌then◌else◌, option_map, option_and_then}
+use Rattle.std.specs.Prelude.{ℕ, ◌≤◌, nat_le, Bool, ◌&&◌, List, [], ◌∷◌, Option, Some, None, codes, if◌then◌else◌, option_map, option_and_then}
 use Rattle.std.specs.Str.{bytes_eq}
 use Rattle.clap.specs.Words.{Text}
 use Rattle.value_core.specs.Tokens.{number_of}
 use Rattle.op_keys.specs.declared.level.Level.{Level}
 use Rattle.pipe_text.specs.Words.{level_word}
-use Rattle.command_words.specs.Options.{Options, log_app, options_of, check_app, run_app, store_app}
+use Rattle.command_words.specs.Options.{Options, log_app, make_app, options_of, check_app, run_app, store_app}
 use Rattle.command_words.specs.declared.command.Command.{Command}
-use Rattle.command_words.specs.declared.command.Command.TheVariants.{Run, Check, Jobs, Stats, Log, Migrate}
+use Rattle.command_words.specs.declared.command.Command.TheVariants.{Run, Check, Jobs, Stats, Log, Make, Migrate}
 
 -- ---- the options of each command
 
@@ -49,6 +49,23 @@ number_in o = option_and_then number_of o.plain
 abbrev pub log_of : Options → Option Command
 log_of o = option_and_then (λ job. option_map (Log job) o.store) (number_in o)
 
+-- how many nodes `make` may be asked for
+abbrev pub is_made_count : ℕ → Bool
+is_made_count n = nat_le 1 n && nat_le n 1000
+
+-- `make`, with a number of nodes in that range
+abbrev pub make_with : ℕ → Option Command
+make_with n = if is_made_count n then Some (Make n) else None
+
+-- a command whose number of nodes, if it has one, is in that range
+abbrev pub IsInRange : Command → Type 0
+IsInRange (Make n) = (1 ≤ n) × (n ≤ 1000)
+IsInRange command = Unit {0}
+
+-- `make`
+abbrev pub make_of : Options → Option Command
+make_of o = option_and_then make_with (number_in o)
+
 -- ---- the words
 
 -- the command of its first word and the words after it
@@ -59,8 +76,9 @@ command_named name words =
     else (if bytes_eq name (codes "jobs") then option_and_then jobs_of (options_of store_app words)
     else (if bytes_eq name (codes "stats") then option_and_then stats_of (options_of store_app words)
     else (if bytes_eq name (codes "log") then option_and_then log_of (options_of log_app words)
+    else (if bytes_eq name (codes "make") then option_and_then make_of (options_of make_app words)
     else (if bytes_eq name (codes "migrate") then option_and_then migrate_of (options_of store_app words)
-    else None)))))
+    else None))))))
 
 -- the command of the words of a command line, without the program's name
 unfoldable pub command_of : List Text → Option Command

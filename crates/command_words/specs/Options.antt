@@ -10,7 +10,7 @@ use Rattle.clap.specs.declared.builder.value_parser.ValueParser.TheVariants.{Non
 
 -- ---- options
 
--- the word that is no option: FILE or JOB; it isn't empty
+-- the word that is no option: FILE, JOB or N; it isn't empty
 abbrev pub plain_rule : Rule
 plain_rule = record (new_rule (codes "plain")) { required = true; parser = Some NonEmptyString }
 
@@ -43,6 +43,10 @@ run_app = with_rule (with_rule (with_rule (with_rule (without_help (codes "run")
 -- `check FILE`
 abbrev pub check_app : App
 check_app = with_rule (without_help (codes "check")) plain_rule
+
+-- `make N`
+abbrev pub make_app : App
+make_app = with_rule (without_help (codes "make")) plain_rule
 
 -- `jobs --store PATH`, `stats --store PATH` and `migrate --store PATH`
 abbrev pub store_app : App

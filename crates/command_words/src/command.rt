@@ -67,6 +67,10 @@ pub enum Command {
         job: u64,
         store: PathText,
     },
+    /// A session on a made pipeline of so many nodes, from 1 to 1,000.
+    Make {
+        nodes: u64,
+    },
     /// Moves a store of the first schema under the second.
     Migrate {
         store: PathText,

@@ -1,7 +1,7 @@
 //! The words after the command, as clap takes them apart.
 ghost use Rattle.std.specs.Prelude.{◌≡◌, IfOk, Some, true, false, map, string_bytes, option_map};
 ghost use Rattle.clap.specs.Words.{app_of, is_simple_and_free, new_rule, rule_of};
-ghost use Rattle.command_words.specs.Options.{has_lone_hyphen, log_app, options_of, parsed};
+ghost use Rattle.command_words.specs.Options.{has_lone_hyphen, log_app, make_app, options_of, parsed};
 ghost use Rattle.command_words.specs.Options.{check_app, run_app, store_app};
 ghost use Rattle.command_words.specs.inside.FoundTexts.{texts_of};
 
@@ -82,6 +82,17 @@ pub(crate) fn log_command<'a>(alloc: Global) -> Result<clap::Command<'a>, AllocE
         .disable_help_flag(true)
         .arg(plain)?
         .arg(store)
+}
+
+/// `make N`.
+pub(crate) fn make_command<'a>(alloc: Global) -> Result<clap::Command<'a>, AllocError>
+    ensures { IfOk result (λ c. app_of c ≡ make_app) }
+{
+    let plain = text_argument(alloc, "plain").required(true);
+    clap::Command::new(alloc, "make")
+        .no_binary_name(true)
+        .disable_help_flag(true)
+        .arg(plain)
 }
 
 /// What clap finds in the words after a command, unless it refuses them.

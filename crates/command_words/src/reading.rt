@@ -1,12 +1,14 @@
 //! Commands from the words of the command line.
-ghost use Rattle.std.specs.Prelude.{◌≡◌, IfOk, map, string_bytes, option_and_then, option_map};
-ghost use Rattle.command_words.specs.Commands.{check_of, command_of, log_of, number_in};
-ghost use Rattle.command_words.specs.Commands.{run_of, threshold_of};
-ghost use Rattle.command_words.specs.Options.{log_app, options_of, check_app, run_app, store_app};
+ghost use Rattle.std.specs.Prelude.{◌≡◌, IfOk, IfSome, map, string_bytes, option_and_then, option_map};
+ghost use Rattle.command_words.specs.Commands.{check_of, command_of, is_made_count, log_of, make_of, number_in};
+ghost use Rattle.command_words.specs.Commands.{IsInRange, run_of, threshold_of};
+ghost use Rattle.command_words.specs.Options.{log_app, make_app, options_of, check_app, run_app, store_app};
 ghost use Rattle.command_words.specs.inside.FoundTexts.{texts_of};
 
 use crate::command::{Command, PathText};
-use crate::options::{Found, check_command, log_command, options_of, run_command, store_command};
+use crate::options::{
+    Found, check_command, log_command, make_command, options_of, run_command, store_command,
+};
 use crate::values::{level, number};
 use op_keys::Level;
 use std::alloc::{AllocError, Global};
@@ -68,6 +70,22 @@ fn log_of(alloc: Global, found: &Found<'_>) -> Result<Option<Command>, AllocErro
     }
 }
 
+/// Whether a made pipeline may have so many nodes.
+fn is_made_count(nodes: u64) -> bool
+    ensures { result ≡ is_made_count nodes }
+{
+    (1..=1000).contains(&nodes)
+}
+
+fn make_of(found: &Found<'_>) -> Option<Command>
+    ensures { result ≡ make_of (texts_of found.now) }
+{
+    match number_in(found) {
+        Some(nodes) if is_made_count(nodes) => Some(Command::Make { nodes }),
+        _ => None,
+    }
+}
+
 #[tactic(auto, using(crate::proofs::Apps::run_is_free))]
 fn read_run(alloc: Global, words: &[String]) -> Result<Option<Command>, AllocError>
     ensures { IfOk result (λ c. c
@@ -104,6 +122,17 @@ fn read_log(alloc: Global, words: &[String]) -> Result<Option<Command>, AllocErr
     }
 }
 
+#[tactic(auto, using(crate::proofs::Apps::make_is_free))]
+fn read_make(alloc: Global, words: &[String]) -> Result<Option<Command>, AllocError>
+    ensures { IfOk result (λ c. c
+        ≡ option_and_then make_of (options_of make_app (map string_bytes words.now))) }
+{
+    match options_of(make_command(alloc)?, words)? {
+        Some(found) => Ok(make_of(&found)),
+        None => Ok(None),
+    }
+}
+
 /// The store that alone is given.
 #[tactic(auto, using(crate::proofs::Apps::store_is_free))]
 fn read_store(alloc: Global, words: &[String]) -> Result<Option<PathText>, AllocError>
@@ -119,7 +148,8 @@ fn read_store(alloc: Global, words: &[String]) -> Result<Option<PathText>, Alloc
 /// The command of the words of the command line, which come without the program's own name.
 #[tactic(auto, unfolding(crate::specs::Commands::command_of))]
 pub fn read_words(alloc: Global, words: &[String]) -> Result<Option<Command>, AllocError>
-    ensures { IfOk result (λ c. c ≡ command_of (map string_bytes words.now)) }
+    ensures command { IfOk result (λ c. c ≡ command_of (map string_bytes words.now)) }
+    ensures range { IfOk result (λ c. IfSome c IsInRange) }
 {
     let [name, words @ ..] = words else {
         return Ok(None);
@@ -130,6 +160,7 @@ pub fn read_words(alloc: Global, words: &[String]) -> Result<Option<Command>, Al
         "jobs" => Ok(read_store(alloc, words)?.map(|store| Command::Jobs { store })),
         "stats" => Ok(read_store(alloc, words)?.map(|store| Command::Stats { store })),
         "log" => read_log(alloc, words),
+        "make" => read_make(alloc, words),
         "migrate" => Ok(read_store(alloc, words)?.map(|store| Command::Migrate { store })),
         _ => Ok(None),
     }

@@ -13,7 +13,7 @@ use Rattle.store_reports.proofs.Moving.{unopened}
 use Rattle.store_reports.proofs.Reported.{if_held, lost_follows}
 use Rattle.store_reports.proofs.Told.{side}
 use Rattle.command_words.specs.declared.command.Command.{Command}
-use Rattle.command_words.specs.declared.command.Command.TheVariants.{Run, Check, Jobs, Stats, Log, Migrate}
+use Rattle.command_words.specs.declared.command.Command.TheVariants.{Run, Check, Jobs, Stats, Log, Make, Migrate}
 use Rattle.current_cli.specs.Calls.{IsCall}
 use Rattle.current_cli.specs.inside.FileFound.{Refuses, file_found}
 use Rattle.current_cli.specs.inside.Parts.{IsCheckOf}
@@ -46,4 +46,5 @@ unread_call (Some (Check file)) given e =
 unread_call (Some (Jobs store)) given e = reports question.Jobs store given e
 unread_call (Some (Stats store)) given e = reports question.Stats store given e
 unread_call (Some (Log job store)) given e = reports (question.Log job) store given e
+unread_call (Some (Make n)) given e = inr (refl, refl)
 unread_call (Some (Migrate store)) given e = λ knows. if_held given.held _ (λ held at. unopened (held store) 7 e e (inr refl) refl refl (λ known x left. left))

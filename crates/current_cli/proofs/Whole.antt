@@ -26,8 +26,9 @@ use Rattle.session_rules.specs.Transcripts.{End, Quits, Limit, Transcript, befor
 use Rattle.session_core.specs.Numbers.{counting as counting_of}
 use Rattle.store_reports.specs.Causes.{Counts, IsCaused}
 use Rattle.store_reports.specs.Migrating.{IsMigration}
+use Rattle.made_session.specs.Promises.{IsMade}
 use Rattle.command_words.specs.declared.command.Command.{Command}
-use Rattle.command_words.specs.declared.command.Command.TheVariants.{Run, Check, Jobs, Stats, Log, Migrate}
+use Rattle.command_words.specs.declared.command.Command.TheVariants.{Run, Check, Jobs, Stats, Log, Make, Migrate}
 use Rattle.current_cli.specs.Calls.{CanBeDone, HoldsSound, HoldsStore, IsCall, IsWellFormed, IsWhole, NoneRose, OpensStore, report}
 use Rattle.current_cli.specs.Files.{IsFile}
 
@@ -179,6 +180,12 @@ migrate_done path given status e e' old new run cause none knows held is movable
     let f = (rw is at run knows).0 in
     done_or_not (migrate_plan (held path)) status (migrate_zero (held path) movable) (own_status (migrate_plan (held path)) status old new cause none f.status_of)
 
+-- ---- `make`
+
+make_done : (n status : ℕ) (e e' : Seen) (old new : Counts) → IsMade n status e e' → IsCaused status old new → NoneRose old new → (status ≡ 0) ⊎ (status ≡ 7)
+make_done n status e e' old new (inl (text, summary, f)) cause none = own_status (telling text 0) status old new cause none f.status_of
+make_done n status e e' old new (inr (seven, same)) cause none = inr seven
+
 -- ---- all of them
 
 pub completes : (command : Option Command) (given : Given) (status : ℕ) (e e' : Seen) (old new : Counts) → IsCall command given status e e' → IsCaused status old new → CanBeDone command given → NoneRose old new
@@ -194,4 +201,5 @@ completes (Some (Stats store)) given status e e' old new call cause can none kno
 completes (Some (Log job store)) given status e e' old new call cause can none knows =
     report_done (λ s. log_plan s job) store given status e e' old new call cause none (knows tt) can.0 can.1
     (store_status (λ t. log_text (log_of (can.0 store) job)) (can.0 store) (λ t. log_zero (log_of (can.0 store) job) can.2.1) can.2.0)
+completes (Some (Make n)) given status e e' old new call cause can none knows = make_done n status e e' old new call cause none
 completes (Some (Migrate store)) given status e e' old new call cause can none knows = migrate_done store given status e e' old new call cause none (knows tt) can.0 can.1 can.2

@@ -19,8 +19,9 @@ use Rattle.session_rules.specs.Runs.{Follows, Given, IsCheck, IsReport, IsRun, S
 use Rattle.session_core.specs.Numbers.{counting}
 use Rattle.store_reports.specs.Causes.{Counts}
 use Rattle.store_reports.specs.Migrating.{IsMigration}
+use Rattle.made_session.specs.Promises.{IsMade}
 use Rattle.command_words.specs.declared.command.Command.{Command}
-use Rattle.command_words.specs.declared.command.Command.TheVariants.{Run, Check, Jobs, Stats, Log, Migrate}
+use Rattle.command_words.specs.declared.command.Command.TheVariants.{Run, Check, Jobs, Stats, Log, Make, Migrate}
 use Rattle.current_cli.specs.Files.{IsFile}
 use Rattle.current_cli.specs.declared.ends.ProgramEnds.{ProgramEnds}
 
@@ -60,6 +61,7 @@ IsCall (Some (Check file)) given status e e' = IsCheck IsFile (λ found. check_p
 IsCall (Some (Jobs store)) given status e e' = IsReport jobs_plan store given status e e'
 IsCall (Some (Stats store)) given status e e' = IsReport stats_plan store given status e e'
 IsCall (Some (Log job store)) given status e e' = IsReport (λ s. log_plan s job) store given status e e'
+IsCall (Some (Make n)) given status e e' = IsMade n status e e'
 IsCall (Some (Migrate store)) given status e e' = IsMigration store given status e e'
 
 -- ---- causes
@@ -72,6 +74,7 @@ UsageCause (Some (Check file)) misses misses' held knows = Rose misses misses'
 UsageCause (Some (Jobs store)) misses misses' held knows = ⊥
 UsageCause (Some (Stats store)) misses misses' held knows = ⊥
 UsageCause (Some (Log job store)) misses misses' held knows = IsTrue knows → IfSome held (λ stores. log_of (stores store) job ≡ None)
+UsageCause (Some (Make n)) misses misses' held knows = ⊥
 UsageCause (Some (Migrate store)) misses misses' held knows = ⊥
 
 -- a command that runs a session
@@ -118,6 +121,7 @@ CanBeDone (Some (Check file)) given = HoldsSound file given
 CanBeDone (Some (Jobs store)) given = HoldsStore IsWellFormed (Some store) given
 CanBeDone (Some (Stats store)) given = HoldsStore IsWellFormed (Some store) given
 CanBeDone (Some (Log job store)) given = HoldsStore (λ s. IsWellFormed s × IsTrue (is_some (log_of s job))) (Some store) given
+CanBeDone (Some (Make n)) given = Unit {0}
 CanBeDone (Some (Migrate store)) given = HoldsStore (λ s. first_unmovable s ≡ None) (Some store) given
 
 -- no call failed

@@ -1,6 +1,6 @@
 //! All that the program does.
 ghost use Rattle.std.specs.Prelude.{◌≡◌, ◌≢◌, ◌⊎◌, None, Some, Ok, IsTrue, map, string_bytes};
-ghost use Rattle.command_words.specs.Commands.{command_of};
+ghost use Rattle.command_words.specs.Commands.{IsInRange, command_of};
 ghost use Rattle.command_words.specs.declared.command.Command.TheVariants as command;
 ghost use Rattle.session_rules.specs.Runs.{IsReport};
 ghost use Rattle.store_reports.specs.Causes.{IsCaused};
@@ -16,6 +16,7 @@ use command_words::{Command, PathText, read_words};
 use io_ends::{Clock, Files, Sink, Source};
 use keeper_core::Keepers;
 use launch_core::Launcher;
+use made_session::make;
 use std::alloc::Global;
 use store_reports::{Question, migrate, report, tell};
 
@@ -58,6 +59,7 @@ impl<S: Source, M: Keepers, O: Sink, L: Launcher, C: Clock, F: Files> ProgramEnd
 
     /// Does what a command asks for.
     fn perform(&mut self, alloc: Global, command: Command) -> u8
+        requires range { IsInRange command }
         ensures run { let given = given_by S.left M.held C.readings F.held self.old in
             let see = seen_by M.knows_left M.left O.written L.runs in
             IsCall (Some command) given result (see self.old) (see self.new) }
@@ -90,6 +92,7 @@ impl<S: Source, M: Keepers, O: Sink, L: Launcher, C: Clock, F: Files> ProgramEnd
             Command::Jobs { store } => self.answer(alloc, Question::Jobs, &store),
             Command::Stats { store } => self.answer(alloc, Question::Stats, &store),
             Command::Log { job, store } => self.answer(alloc, Question::Log(job), &store),
+            Command::Make { nodes } => make(alloc, nodes, &mut self.ends.out),
             Command::Migrate { store } => {
                 migrate(alloc, store.as_str(), &mut self.keepers, &mut self.ends.out)
             }
@@ -100,8 +103,9 @@ impl<S: Source, M: Keepers, O: Sink, L: Launcher, C: Clock, F: Files> ProgramEnd
 /// Does what the words of the command line ask for, and answers the status.
 ///
 /// `run FILE` runs a session on the pipeline of a file, `check FILE` prints what the pipeline can
-/// use, and `jobs`, `stats`, `log` and `migrate` work on a store alone. The words come without the
-/// program's own name. Each keeper that is opened is given back.
+/// use, `jobs`, `stats`, `log` and `migrate` work on a store alone, and `make N` runs a session on a
+/// made pipeline of N nodes and prints its summary. The words come without the program's own name.
+/// Each keeper that is opened is given back.
 pub fn top<S: Source, M: Keepers, O: Sink, L: Launcher, C: Clock, F: Files>(
     alloc: Global,
     words: &[String],

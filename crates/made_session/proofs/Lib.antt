@@ -1,0 +1,12 @@
+pub mod Longer
+pub mod Within
+pub mod Sound
+pub mod Faultless
+pub mod Echoing
+pub mod FewWants
+pub mod FewChanges
+pub mod Enough
+pub mod ShortScript
+pub mod Joined
+pub mod Summing
+pub mod Printing

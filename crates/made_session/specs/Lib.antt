@@ -1,0 +1,4 @@
+pub mod Operation
+pub mod Echoes
+pub mod Summaries
+pub mod Promises
