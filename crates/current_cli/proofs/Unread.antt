@@ -46,5 +46,5 @@ unread_call (Some (Check file)) given e =
 unread_call (Some (Jobs store)) given e = reports question.Jobs store given e
 unread_call (Some (Stats store)) given e = reports question.Stats store given e
 unread_call (Some (Log job store)) given e = reports (question.Log job) store given e
-unread_call (Some (Make n)) given e = inr (refl, refl)
+unread_call (Some (Make n)) given e = inr (refl, refl, refl)
 unread_call (Some (Migrate store)) given e = λ knows. if_held given.held _ (λ held at. unopened (held store) 7 e e (inr refl) refl refl (λ known x left. left))

@@ -184,7 +184,7 @@ migrate_done path given status e e' old new run cause none knows held is movable
 
 make_done : (n status : ℕ) (e e' : Seen) (old new : Counts) → IsMade n status e e' → IsCaused status old new → NoneRose old new → (status ≡ 0) ⊎ (status ≡ 7)
 make_done n status e e' old new (inl (text, summary, f)) cause none = own_status (telling text 0) status old new cause none f.status_of
-make_done n status e e' old new (inr (seven, same)) cause none = inr seven
+make_done n status e e' old new (inr (seven, same, ran)) cause none = inr seven
 
 -- ---- all of them
 

@@ -7,6 +7,6 @@ pub mod FewWants
 pub mod FewChanges
 pub mod Enough
 pub mod ShortScript
-pub mod Joined
+pub mod ScriptEnd
 pub mod Summing
 pub mod Printing

@@ -19,9 +19,9 @@ use Rattle.session_rules.specs.Sessions.{Finishes, Script, end_reached}
 use Rattle.session_rules.specs.Transcripts.{Bad, End, Limit, Quits, Transcript, transcript}
 use Rattle.session_rules.specs.Versions.{FinishesCounted}
 use Rattle.session_core.specs.Runs.{Faults, Given, IsCountedOn, IsEndCaused, IsSessionOn, Subject, script_on, with_exits}
-use Rattle.made_session.specs.Echoes.{AreEchoed}
+use Rattle.made_session.specs.inside.Echoes.{AreEchoed}
 use Rattle.made_session.specs.Promises.{Summed}
-use Rattle.made_session.proofs.Joined.{made_quits}
+use Rattle.made_session.proofs.ScriptEnd.{made_quits}
 
 -- outputs whose orders were echoed
 echoes_in : (outputs : List Output) → AreEchoed (runs outputs) → AreEchoes outputs

@@ -1,4 +1,2 @@
-pub mod Operation
-pub mod Echoes
-pub mod Summaries
 pub mod Promises
+pub mod inside

@@ -16,7 +16,7 @@ pub record Summed (nodes versions orders : ℕ) : Type 0 where
   pub versions_are : versions ≡ length (deltas (made_transcript nodes exits).outputs)
   pub orders_are : orders ≡ length (runs (made_transcript nodes exits).outputs)
 
--- the summary of that session was printed, or a front of it if the sink failed; out of memory, nothing was
+-- the summary of that session was printed, or a front of it; if memory ran out, nothing was
 abbrev pub TellsSummary : ℕ → ℕ → SinkSide → SinkSide → Type 0
 TellsSummary nodes status old new =
     ((text : List ℕ) × IsSummary nodes text × Tells text 0 status old new)

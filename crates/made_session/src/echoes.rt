@@ -1,6 +1,6 @@
 //! A launcher that echoes orders, and counts them.
 ghost use Rattle.std.specs.Prelude.{◌≡◌, [], Some, length};
-ghost use Rattle.made_session.specs.Echoes.{AreEchoed};
+ghost use Rattle.made_session.specs.inside.Echoes.{AreEchoed};
 
 use launch_core::{EchoLauncher, Launcher};
 use op_keys::{Exit, Order};
@@ -19,7 +19,7 @@ pub(crate) struct CountedEchoes {
 impl Model for CountedEchoes {
     ghost use Rattle.std.specs.Prelude.{◌≡◌, length};
     ghost use Rattle.launch_core.specs.Launching.{Runs};
-    ghost use Rattle.made_session.specs.Echoes.{AreEchoed};
+    ghost use Rattle.made_session.specs.inside.Echoes.{AreEchoed};
 
     ghost Value = { Runs };
 

@@ -7,7 +7,7 @@ ghost use Rattle.session_rules.specs.Commands.{made_items};
 ghost use Rattle.session_rules.specs.Commands as made;
 ghost use Rattle.value_core.specs.declared.value.Value.TheVariants as value;
 ghost use Rattle.term_core.specs.declared.program.Term.TheVariants as term;
-ghost use Rattle.made_session.specs.Operation.{made_op};
+ghost use Rattle.made_session.specs.inside.Operation.{made_op};
 
 use crate::digits::digits_list;
 use op_keys::{ClientDecl, Expiry, Level, OpDecl, PoolDecl, WorkerDecl};

@@ -1,7 +1,7 @@
 //! The summary.
 ghost use Rattle.std.specs.Prelude.{◌≡◌, ◌++◌, string_bytes, IfOk, OnOk};
 ghost use Rattle.session_rules.specs.StoreTexts.{count_line};
-ghost use Rattle.made_session.specs.Summaries.{summary_text};
+ghost use Rattle.made_session.specs.inside.Summaries.{summary_text};
 
 use std::alloc::Global;
 use value_core::{ListOf, NoMemory};

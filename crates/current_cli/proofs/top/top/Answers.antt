@@ -14,7 +14,7 @@ returns-in-Ok-Some-clause-complete g c =
     let see = seen_by g.M.Keepers.knows_left g.M.Keepers.left g.O.Sink.written g.L.Launcher.runs in
     let count = counts_by g.S.Source.faults g.M.Keepers.faults g.O.Sink.faults g.F.Files.faults in
     subst (λ (command : Option Command). CanBeDone command given → NoneRose (count program) (count later) → (OpensStore command → IsTrue (g.M.Keepers.knows_left later.keepers)) → IsWhole command c.perform.result)
-    (sym c.in-Ok-Some.field-0-is ∙ c.in-Ok-Some.ensures)
+    (sym c.in-Ok-Some.field-0-is ∙ c.in-Ok-Some.ensures.command)
     (λ can none knows. completes (Some c.in-Ok-Some.command) given c.perform.result (see program) (see later) (count program) (count later) c.perform.ensures.run c.perform.ensures.cause can none knows)
 
 pub returns-in-Err-clause-run : goal.returns-in-Err-clause-run

@@ -1,5 +1,5 @@
 use Rattle.std.proofs.Common.{◌≡◌, ◌+◌, [], ◌∷◌, length, length-append, ap, sym, subst, ◌∙◌, arith}
-use Rattle.made_session.specs.Echoes.{AreEchoed}
+use Rattle.made_session.specs.inside.Echoes.{AreEchoed}
 use Rattle.made_session.proofs.Echoing.{echoed_more}
 use Rattle.made_session.proofs.echoes.CountedEchoesLauncher.run.Goals as goal
 

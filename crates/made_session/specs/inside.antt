@@ -1,0 +1,3 @@
+pub mod Echoes
+pub mod Operation
+pub mod Summaries
