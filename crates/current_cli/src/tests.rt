@@ -204,3 +204,19 @@ fn commands_on_a_store_have_their_statuses(rt: HostRuntime) -> Result<(), Fail> 
     }
     Ok(())
 }
+
+#[test]
+fn make_prints_its_summary_or_a_front_of_it(rt: HostRuntime) -> Result<(), Fail> {
+    let summary = "nodes 1\nversions 33\norders 11\n";
+    let outcome = run_with(rt.alloc(), &["make", "1"], NONE)?;
+    assert_eq!(rt; outcome.status, 0);
+    assert_eq!(rt; str::from_utf8(outcome.written.as_slice())?, summary);
+    // Five bytes a call.
+    for sink in 1..7u64 {
+        let failing = Failing { sink, ..NONE };
+        let outcome = run_with(rt.alloc(), &["make", "1"], failing)?;
+        assert_eq!(rt; outcome.status, 5, "at call {sink}");
+        assert!(rt; summary.as_bytes().starts_with(outcome.written.as_slice()));
+    }
+    Ok(())
+}
